@@ -1,0 +1,10 @@
+pub mod Abs
+pub mod Clip
+pub mod Cond
+pub mod Grid
+pub mod Local
+pub mod Loop
+pub mod Num
+pub mod Places
+pub mod Raster
+pub mod Table

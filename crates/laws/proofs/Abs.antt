@@ -6,6 +6,7 @@ use native.Mathlib.Omega.{arith}
 use lib.Dec.{ltb, ltb→lt}
 use lib.IntN.{ℤ, pos, negsuc, negℤ, natAbs, subℕ, _+ℤ_, _-ℤ_, _*ℤ_}
 use lib.Signed.{mag, shrZ}
+use Rattle.laws.specs.Clip.{dist}
 use Rattle.laws.proofs.Cond.{cond-cases}
 
 abs-subℕ : (a b : ℕ) → natAbs (subℕ a b) ≤ a + b
@@ -49,6 +50,20 @@ abs-shr (negsuc a) m = up (div-le-self a m)
   where
     up : {a b : ℕ} → b ≤ a → suc b ≤ suc a
     up h = omega arith
+
+-- a number that is moved by d comes to lie at most d away
+pub abs-near : (x : ℕ) (d : ℤ) → dist (natAbs (pos x +ℤ d)) x ≤ natAbs d
+abs-near x (pos n) = up x n
+  where
+    up : (x n : ℕ) → dist (x + n) x ≤ n
+    up x n = omega arith
+abs-near x (negsuc n) = cond-cases (λ (z : ℤ). dist (natAbs z) x ≤ suc n) (ltb x (suc n)) (λ t. across (ltb→lt x (suc n) t)) (λ t. down x n)
+  where
+    across : {x n : ℕ} → x < suc n → dist (suc (suc n - suc x)) x ≤ suc n
+    across h = omega arith
+
+    down : (x n : ℕ) → dist (x - suc n) x ≤ suc n
+    down x n = omega arith
 
 -- `mag` is the size that a signed width bounds: one less than the distance for a negative number
 pub mag-abs : (z : ℤ) → mag z ≤ natAbs z

@@ -2,6 +2,7 @@ pub mod Abs
 pub mod Clip
 pub mod Cond
 pub mod Grid
+pub mod Ints
 pub mod Local
 pub mod Loop
 pub mod Num

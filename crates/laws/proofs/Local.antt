@@ -92,7 +92,6 @@ module _ (F : ℕ → Type 0) where
 pub local-line : (ps qs : List ℕ) (f : List ℕ → List ℕ) → All (Among ps) qs → Local (Among ps) (through ps qs f)
 local-line ps qs f k = local-through (Among ps) ps qs f (all-among (Among ps) ps (λ p m. m)) k
 
-pub lines-commute : (ps qs : List ℕ) (f : List ℕ → List ℕ) (us vs : List ℕ) (g : List ℕ → List ℕ) → All (Among ps) qs → All (Among us) vs
-    → ((p : ℕ) → Among ps p → Among us p → ⊥) → (s : Plane) → through ps qs f (through us vs g s) ≡ through us vs g (through ps qs f s)
-lines-commute ps qs f us vs g h k apart s =
-    commute (Among ps) (Among us) (through ps qs f) (through us vs g) (decAmong ps) (decAmong us) apart (local-line ps qs f h) (local-line us vs g k) s
+pub line-commute : (ps us : List ℕ) (f g : Plane → Plane) → Local (Among ps) f → Local (Among us) g → ((p : ℕ) → Among ps p → Among us p → ⊥)
+    → (s : Plane) → f (g s) ≡ g (f s)
+line-commute ps us f g lf lg apart s = commute (Among ps) (Among us) f g (decAmong ps) (decAmong us) apart lf lg s

@@ -1,9 +1,9 @@
 -- Signed machine numbers. A `Num w` is a number of the code at the width w: the bits that its local holds, the integer that they are, and a
 -- size that the integer is at most away from 0. There is one for each operation, made of the operands' and of a test on sizes that antt computes (`tt`):
 --     byte, nat, lit                    an unsigned number that was cast, a literal
---     int, given, cast                  a signed parameter, one with a bound, one that was cast
+--     int, returned, cast               a signed parameter, a call's result, either of them cast
 --     add, sub, mul, neg, shr           what an operation makes
---     add-ok, sub-ok, mul-ok, neg-ok    what the operation's need asks: the result fits
+--     add-ok, sub-ok, mul-ok, neg-ok, cast-ok    what the operation's need asks: the result fits
 -- All are `abbrev`, so that the bits compute to those of the goal. Assumes nothing.
 use mathlib.Core.Path.{_≡_, ap, subst, _∙_}
 use Prim.Native.Nat.{ℕ, _+_, _*_, _^_, _≤_, _<_}
@@ -46,16 +46,19 @@ byte-le f = omega arith
 abbrev pub byte : {w : Width} {n : ℕ} → Fits w8 n → T (ltb 255 (2 ^ hbits w)) → Num w
 byte {w} {n} f t = nat n 255 (byte-le f) t
 
--- a signed parameter or a call's result of which a bound is known
-abbrev pub given : {w : Width} {z : ℤ} (k : ℕ) → SFits w z → natAbs z ≤ k → Num w
-given {w} {z} k f h = record { bits = ofZ w z; val = z; size = k; reads = toZ-ofZ f; small = h }
-
--- one of which nothing but its width is known
+-- a signed parameter: `int (c .fits .x)`
 pub int-small : {w : Width} {z : ℤ} → SFits w z → natAbs z ≤ 2 ^ hbits w
 int-small {w} {z} f = natAbs-le z (f .sfits)
 
 abbrev pub int : {w : Width} {z : ℤ} → SFits w z → Num w
-int {w} f = given (2 ^ hbits w) f (int-small f)
+int {w} {z} f = record { bits = ofZ w z; val = z; size = 2 ^ hbits w; reads = toZ-ofZ f; small = int-small f }
+
+-- what a call returned, read back from its local: `result w (c .f .ok) (c .f .ensures)`; and as a number, with a bound of what it ensures
+pub result : (w : Width) {z u : ℤ} → mag z < 2 ^ hbits w → z ≡ u → toZ w (ofZ w z) ≡ u
+result w f e = toZ-ofZ (record { sfits = f }) ∙ e
+
+abbrev pub returned : {w : Width} {z u : ℤ} (k : ℕ) → mag z < 2 ^ hbits w → z ≡ u → natAbs u ≤ k → Num w
+returned {w} {z} {u} k f e h = record { bits = ofZ w z; val = u; size = k; reads = result w f e; small = h }
 
 -- ---- what an operation made: the integer u, which is v
 abbrev pub made : {w : Width} (u v : ℤ) (k : ℕ) → u ≡ v → natAbs u ≤ k → SFits w u → Num w
@@ -115,6 +118,9 @@ module _ {w : Width} (x : Num w) where
   pub cast-abs : natAbs (toZ w (x .bits)) ≤ x .size
   cast-abs = rw (x .reads) (x .small)
 
+  pub cast-ok : (w′ : Width) → T (ltb (x .size) (2 ^ hbits w′)) → SFits w′ (toZ w (x .bits))
+  cast-ok w′ t = fits w′ cast-abs t
+
 abbrev pub neg : {w : Width} (x : Num w) → T (ltb (x .size) (2 ^ hbits w)) → Num w
 neg {w} x t = made (pos 0 -ℤ toZ w (x .bits)) (negℤ (x .val)) (x .size) (neg-is x) (neg-abs x) (neg-ok x t)
 
@@ -124,8 +130,4 @@ shr {w} x m t = made (shrZ (toZ w (x .bits)) m) (shrZ (x .val) m) (x .size) (ap 
 
 -- `x as T` of a signed x, to a signed T in which its size fits
 abbrev pub cast : {w : Width} (w′ : Width) (x : Num w) → T (ltb (x .size) (2 ^ hbits w′)) → Num w′
-cast {w} w′ x t = made (toZ w (x .bits)) (x .val) (x .size) (x .reads) (cast-abs x) (fits w′ (cast-abs x) t)
-
--- what a call returned, read back from its local: `result w32 (c .f .ok) (c .f .ensures)`
-pub result : (w : Width) {z u : ℤ} → mag z < 2 ^ hbits w → z ≡ u → toZ w (ofZ w z) ≡ u
-result w f e = toZ-ofZ (record { sfits = f }) ∙ e
+cast {w} w′ x t = made (toZ w (x .bits)) (x .val) (x .size) (x .reads) (cast-abs x) (cast-ok x w′ t)

@@ -47,6 +47,11 @@ gets-within : (top : ℕ) (ps : List ℕ) (s : Plane) → Within top s → All (
 gets-within top [] s f = tt
 gets-within top (p ∷ ps) s f = (f p, gets-within top ps s f)
 
+pub all-at : (top : ℕ) (vs : List ℕ) → All (λ v. v ≤ top) vs → Within top vs
+all-at top [] a i = omega arith
+all-at top (v ∷ vs) a zero = a .0
+all-at top (v ∷ vs) a (suc i) = all-at top vs (a .1) i
+
 -- a function that makes samples of samples keeps the plane's
 pub through-within : (top : ℕ) (ps qs : List ℕ) (f : List ℕ → List ℕ) (s : Plane)
     → ((vs : List ℕ) → All (λ v. v ≤ top) vs → All (λ v. v ≤ top) (f vs)) → Within top s → Within top (through ps qs f s)
@@ -61,6 +66,28 @@ all-places F (suc n) base stride h =
 pub all-among : (F : ℕ → Type 0) (ps : List ℕ) → ((p : ℕ) → Among ps p → F p) → All F ps
 all-among F [] h = tt
 all-among F (p ∷ ps) h = (h p (List·Memᴰ·head refl), all-among F ps (λ q m. h q (List·Memᴰ·tail m)))
+
+pub all-map : (F G : ℕ → Type 0) (ps : List ℕ) → ((p : ℕ) → F p → G p) → All F ps → All G ps
+all-map F G [] h a = tt
+all-map F G (p ∷ ps) h a = (h p (a .0), all-map F G ps h (a .1))
+
+inner : (m n base stride : ℕ) → All (Among (places (base + stride) stride n)) (places (base + stride) stride m)
+    → All (Among (places base stride (suc n))) (places (base + stride) stride m)
+inner m n base stride =
+    all-map (Among (places (base + stride) stride n)) (Among (places base stride (suc n))) (places (base + stride) stride m) (λ p k. List·Memᴰ·tail k)
+
+-- the first places of a row, and those after its first, are among it
+pub first-among : (m n base stride : ℕ) → m ≤ n → All (Among (places base stride n)) (places base stride m)
+first-among zero n base stride h = tt
+first-among (suc m) zero base stride h = absurd (none h)
+  where
+    none : suc m ≤ 0 → ⊥
+    none h = omega arith
+first-among (suc m) (suc n) base stride h =
+    (List·Memᴰ·head refl, inner m n base stride (first-among m n (base + stride) stride (omega arith)))
+
+pub inner-among : (m n base stride : ℕ) → m ≤ n → All (Among (places base stride (suc n))) (places (base + stride) stride m)
+inner-among m n base stride h = inner m n base stride (first-among m n (base + stride) stride h)
 
 pub decAmong : (ps : List ℕ) (q : ℕ) → Dec (Among ps q)
 decAmong [] q = no List·Memᴰ·not-nil

@@ -1,0 +1,47 @@
+-- A chroma line, p1 p0 | q0 q1, over the largest sample `top`: ITU-T H.264, clauses 8.7.2.2 to 8.7.2.4 with chromaStyleFilteringFlag set. Its outcome are the
+-- two samples that a filter can change.
+use Prim.Native.Nat.{ℕ, _+_, _*_, _/_}
+use mathlib.Core.Bool.{Bool, cond}
+use lib.Dec.{ltb, eqb}
+use lib.IntN.{ℤ, pos, _+ℤ_, _-ℤ_}
+use Rattle.laws.specs.Clip.{clip1}
+use Rattle.lines.specs.Filter.{filterSamples, deltaOf}
+use Rattle.lines.specs.declared.shared.Two.{Two}
+
+pub record Short : Type 0 where
+  pub p1 : ℕ
+  pub p0 : ℕ
+  pub q0 : ℕ
+  pub q1 : ℕ
+
+abbrev pub short : ℕ → ℕ → ℕ → ℕ → Short
+short a b c d = record { p1 = a; p0 = b; q0 = c; q1 = d }
+
+abbrev pub same : Short → Two
+same l = record { p0 = l .p0; q0 = l .q0 }
+
+-- bS < 4: tC = tC0 + 1
+abbrev pub chromaDelta : ℕ → Short → ℤ
+chromaDelta tc0 l = deltaOf (tc0 + 1) (l .p1) (l .p0) (l .q0) (l .q1)
+
+unfoldable pub chromaNormal : ℕ → ℕ → Short → Two
+chromaNormal top tc0 l = record { p0 = clip1 top (pos (l .p0) +ℤ chromaDelta tc0 l); q0 = clip1 top (pos (l .q0) -ℤ chromaDelta tc0 l) }
+
+-- bS = 4
+unfoldable pub chromaStrong : Short → Two
+chromaStrong l = record { p0 = (2 * l .p1 + l .p0 + l .q1 + 2) / 4; q0 = (2 * l .q1 + l .q0 + l .p1 + 2) / 4 }
+
+-- the line, where filterSamplesFlag is set
+abbrev pub chromaSamples : ℕ → ℕ → Short → Bool
+chromaSamples alpha beta l = filterSamples alpha beta (l .p1) (l .p0) (l .q0) (l .q1)
+
+unfoldable pub normalShort : ℕ → ℕ → ℕ → ℕ → Short → Two
+normalShort top alpha beta tc0 l = cond (chromaSamples alpha beta l) (chromaNormal top tc0 l) (same l)
+
+unfoldable pub strongShort : ℕ → ℕ → Short → Two
+strongShort alpha beta l = cond (chromaSamples alpha beta l) (chromaStrong l) (same l)
+
+-- at the strength bs: 4 and above is strong, on any edge
+unfoldable pub chromaLine : ℕ → ℕ → ℕ → ℕ → ℕ → Short → Two
+chromaLine top bs alpha beta tc0 l =
+    cond (eqb bs 0) (same l) (cond (ltb bs 4) (normalShort top alpha beta tc0 l) (strongShort alpha beta l))

@@ -1,0 +1,7 @@
+pub mod Tables
+pub mod Thresholds
+pub mod Luma
+pub mod Chroma
+pub mod Filter
+pub mod Cases
+pub mod Planes

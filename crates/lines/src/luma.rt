@@ -1,0 +1,196 @@
+// A luma line on values: p3 p2 p1 p0 | q0 q1 q2 q3 in, the six samples that can change out. (Eight bytes in one struct would travel as a machine word and be
+// taken apart by shifts.)
+ghost use mathlib.Core.Path.{_≡_};
+ghost use Prim.Native.Nat.{_+_, _*_, _/_};
+ghost use Rattle.lines.specs.Luma.{line, nudgeOf, innerOf, lumaNormal, strongSide, lumaStrong, normalLine, strongLine};
+use crate::shared::clip3;
+use crate::shared::filter_samples;
+use crate::shared::mean;
+use crate::shared::moved;
+use crate::shared::near;
+
+pub struct Six {
+    pub p2: u8,
+    pub p1: u8,
+    pub p0: u8,
+    pub q0: u8,
+    pub q1: u8,
+    pub q2: u8,
+}
+
+// One side's samples, x0 beside the edge.
+pub struct Side {
+    pub x2: u8,
+    pub x1: u8,
+    pub x0: u8,
+}
+
+// How far p1 or q1 (x1) moves at strengths 1 to 3.
+pub fn nudge(tc0: u8, x2: u8, x1: u8, p0: u8, q0: u8) -> i16
+    ensures { λ r. ⌜ r ≡ nudgeOf tc0 x2 x1 p0 q0 ⌝ }
+{
+    let mean = (p0 as i16 + q0 as i16 + 1) >> 1;
+    let raw = (x2 as i16 + mean - (x1 as i16) * 2) >> 1;
+    let most = tc0 as i16;
+    clip3(-most, most, raw)
+}
+
+pub fn inner(flat: bool, tc0: u8, x2: u8, x1: u8, p0: u8, q0: u8) -> u8
+    ensures { λ r. ⌜ r ≡ innerOf flat tc0 x2 x1 p0 q0 ⌝ }
+{
+    if flat {
+        let d = nudge(tc0, x2, x1, p0, q0);
+        let v = x1 as i16 + d;
+        return v as u8;
+    }
+    x1
+}
+
+pub fn filter_normal(
+    beta: u8,
+    tc0: u8,
+    p3: u8,
+    p2: u8,
+    p1: u8,
+    p0: u8,
+    q0: u8,
+    q1: u8,
+    q2: u8,
+    q3: u8,
+) -> Six
+    ensures { λ r. ⌜ r ≡ lumaNormal 255 beta tc0 (line p3 p2 p1 p0 q0 q1 q2 q3) ⌝ }
+{
+    let flat_p = near(p2, p0, beta);
+    let flat_q = near(q2, q0, beta);
+    let more = flat_p as u8 + flat_q as u8;
+    let two = moved(tc0, more, p1, p0, q0, q1);
+    Six {
+        p2,
+        p1: inner(flat_p, tc0, p2, p1, p0, q0),
+        p0: two.p0,
+        q0: two.q0,
+        q1: inner(flat_q, tc0, q2, q1, p0, q0),
+        q2,
+    }
+}
+
+pub fn mean0(x2: u8, x1: u8, x0: u8, y0: u8, y1: u8) -> u8
+    ensures { λ r. ⌜ r ≡ (x2 + 2 * x1 + 2 * x0 + 2 * y0 + y1 + 4) / 8 ⌝ }
+{
+    ((x2 as u16 + 2 * (x1 as u16) + 2 * (x0 as u16) + 2 * (y0 as u16) + y1 as u16 + 4) >> 3) as u8
+}
+
+pub fn mean1(x2: u8, x1: u8, x0: u8, y0: u8) -> u8
+    ensures { λ r. ⌜ r ≡ (x2 + x1 + x0 + y0 + 2) / 4 ⌝ }
+{
+    ((x2 as u16 + x1 as u16 + x0 as u16 + y0 as u16 + 2) >> 2) as u8
+}
+
+pub fn mean2(x3: u8, x2: u8, x1: u8, x0: u8, y0: u8) -> u8
+    ensures { λ r. ⌜ r ≡ (2 * x3 + 3 * x2 + x1 + x0 + y0 + 4) / 8 ⌝ }
+{
+    ((2 * (x3 as u16) + 3 * (x2 as u16) + x1 as u16 + x0 as u16 + y0 as u16 + 4) >> 3) as u8
+}
+
+pub fn strong_side(strong: bool, x3: u8, x2: u8, x1: u8, x0: u8, y0: u8, y1: u8) -> Side
+    ensures { λ r. ⌜ r ≡ strongSide strong x3 x2 x1 x0 y0 y1 ⌝ }
+{
+    if strong {
+        return Side {
+            x2: mean2(x3, x2, x1, x0, y0),
+            x1: mean1(x2, x1, x0, y0),
+            x0: mean0(x2, x1, x0, y0, y1),
+        };
+    }
+    Side {
+        x2,
+        x1,
+        x0: mean(x1, x0, y1),
+    }
+}
+
+pub fn filter_strong(
+    alpha: u8,
+    beta: u8,
+    p3: u8,
+    p2: u8,
+    p1: u8,
+    p0: u8,
+    q0: u8,
+    q1: u8,
+    q2: u8,
+    q3: u8,
+) -> Six
+    ensures { λ r. ⌜ r ≡ lumaStrong alpha beta (line p3 p2 p1 p0 q0 q1 q2 q3) ⌝ }
+{
+    let close = near(p0, q0, alpha / 4 + 2);
+    let flat_p = near(p2, p0, beta);
+    let flat_q = near(q2, q0, beta);
+    let p = strong_side(close & flat_p, p3, p2, p1, p0, q0, q1);
+    let q = strong_side(close & flat_q, q3, q2, q1, q0, p0, p1);
+    Six {
+        p2: p.x2,
+        p1: p.x1,
+        p0: p.x0,
+        q0: q.x0,
+        q1: q.x1,
+        q2: q.x2,
+    }
+}
+
+// A line at strengths 1 to 3. An alpha of 0 leaves it as it is.
+pub fn normal_line(
+    alpha: u8,
+    beta: u8,
+    tc0: u8,
+    p3: u8,
+    p2: u8,
+    p1: u8,
+    p0: u8,
+    q0: u8,
+    q1: u8,
+    q2: u8,
+    q3: u8,
+) -> Six
+    ensures { λ r. ⌜ r ≡ normalLine 255 alpha beta tc0 (line p3 p2 p1 p0 q0 q1 q2 q3) ⌝ }
+{
+    if filter_samples(alpha, beta, p1, p0, q0, q1) {
+        return filter_normal(beta, tc0, p3, p2, p1, p0, q0, q1, q2, q3);
+    }
+    Six {
+        p2,
+        p1,
+        p0,
+        q0,
+        q1,
+        q2,
+    }
+}
+
+// A line at strength 4. An alpha of 0 leaves it as it is.
+pub fn strong_line(
+    alpha: u8,
+    beta: u8,
+    p3: u8,
+    p2: u8,
+    p1: u8,
+    p0: u8,
+    q0: u8,
+    q1: u8,
+    q2: u8,
+    q3: u8,
+) -> Six
+    ensures { λ r. ⌜ r ≡ strongLine alpha beta (line p3 p2 p1 p0 q0 q1 q2 q3) ⌝ }
+{
+    if filter_samples(alpha, beta, p1, p0, q0, q1) {
+        return filter_strong(alpha, beta, p3, p2, p1, p0, q0, q1, q2, q3);
+    }
+    Six {
+        p2,
+        p1,
+        p0,
+        q0,
+        q1,
+        q2,
+    }
+}

@@ -1,0 +1,163 @@
+// A line of a plane, or of a block that is lent as one: read, filtered, stored. `at` is the place of its first sample and `step` the way to the next.
+ghost use mathlib.Core.Path.{_≡_};
+ghost use Prim.Native.Nat.{_+_, _*_, _<_};
+ghost use lib.ListN.{length};
+ghost use Rattle.laws.specs.Places.{places, puts};
+ghost use Rattle.lines.specs.Luma.{normalLine, strongLine, lumaLine};
+ghost use Rattle.lines.specs.Chroma.{normalShort, strongShort, chromaLine};
+ghost use Rattle.lines.specs.Planes.{fromSix, fromTwo, lumaAt, chromaAt};
+use crate::chroma;
+use crate::luma;
+use crate::luma::Six;
+use crate::shared::Two;
+
+fn put_six(plane: &mut [u8], at: usize, step: usize, r: Six)
+    requires { ⌜ at + 5 * step < length (now plane) ⌝ }
+    ensures { λ _. ⌜ now (plane .exit) ≡ puts (places at step 6) (fromSix r) (now (plane .entry)) ⌝ }
+{
+    let b = at + step;
+    let c = b + step;
+    let d = c + step;
+    let e = d + step;
+    let f = e + step;
+    plane[at] = r.p2;
+    plane[b] = r.p1;
+    plane[c] = r.p0;
+    plane[d] = r.q0;
+    plane[e] = r.q1;
+    plane[f] = r.q2;
+}
+
+fn put_two(plane: &mut [u8], at: usize, step: usize, r: Two)
+    requires { ⌜ at + step < length (now plane) ⌝ }
+    ensures { λ _. ⌜ now (plane .exit) ≡ puts (places at step 2) (fromTwo r) (now (plane .entry)) ⌝ }
+{
+    let b = at + step;
+    plane[at] = r.p0;
+    plane[b] = r.q0;
+}
+
+// Luma at strengths 1 to 3.
+pub fn luma_normal(plane: &mut [u8], at: usize, step: usize, alpha: u8, beta: u8, tc0: u8)
+    requires { ⌜ at + 7 * step < length (now plane) ⌝ }
+    ensures { λ _. ⌜ now (plane .exit) ≡ lumaAt (normalLine 255 alpha beta tc0) at step (now (plane .entry)) ⌝ }
+{
+    let b = at + step;
+    let c = b + step;
+    let d = c + step;
+    let e = d + step;
+    let f = e + step;
+    let g = f + step;
+    let h = g + step;
+    let r = luma::normal_line(
+        alpha,
+        beta,
+        tc0,
+        plane[at],
+        plane[b],
+        plane[c],
+        plane[d],
+        plane[e],
+        plane[f],
+        plane[g],
+        plane[h],
+    );
+    put_six(plane, b, step, r);
+}
+
+// Luma at strength 4.
+pub fn luma_strong(plane: &mut [u8], at: usize, step: usize, alpha: u8, beta: u8)
+    requires { ⌜ at + 7 * step < length (now plane) ⌝ }
+    ensures { λ _. ⌜ now (plane .exit) ≡ lumaAt (strongLine alpha beta) at step (now (plane .entry)) ⌝ }
+{
+    let b = at + step;
+    let c = b + step;
+    let d = c + step;
+    let e = d + step;
+    let f = e + step;
+    let g = f + step;
+    let h = g + step;
+    let r = luma::strong_line(
+        alpha,
+        beta,
+        plane[at],
+        plane[b],
+        plane[c],
+        plane[d],
+        plane[e],
+        plane[f],
+        plane[g],
+        plane[h],
+    );
+    put_six(plane, b, step, r);
+}
+
+// Luma at the strength bs.
+pub fn filter_luma_line(
+    plane: &mut [u8],
+    at: usize,
+    step: usize,
+    bs: u8,
+    alpha: u8,
+    beta: u8,
+    tc0: u8,
+)
+    requires { ⌜ at + 7 * step < length (now plane) ⌝ }
+    ensures { λ _. ⌜ now (plane .exit) ≡ lumaAt (lumaLine 255 bs alpha beta tc0) at step (now (plane .entry)) ⌝ }
+{
+    if bs == 0 {
+        return;
+    }
+    if bs < 4 {
+        luma_normal(plane, at, step, alpha, beta, tc0);
+        return;
+    }
+    luma_strong(plane, at, step, alpha, beta);
+}
+
+// Chroma at strengths 1 to 3.
+pub fn chroma_normal(plane: &mut [u8], at: usize, step: usize, alpha: u8, beta: u8, tc0: u8)
+    requires { ⌜ at + 3 * step < length (now plane) ⌝ }
+    ensures { λ _. ⌜ now (plane .exit) ≡ chromaAt (normalShort 255 alpha beta tc0) at step (now (plane .entry)) ⌝ }
+{
+    let b = at + step;
+    let c = b + step;
+    let d = c + step;
+    let r = chroma::normal_line(alpha, beta, tc0, plane[at], plane[b], plane[c], plane[d]);
+    put_two(plane, b, step, r);
+}
+
+// Chroma at strength 4.
+pub fn chroma_strong(plane: &mut [u8], at: usize, step: usize, alpha: u8, beta: u8)
+    requires { ⌜ at + 3 * step < length (now plane) ⌝ }
+    ensures { λ _. ⌜ now (plane .exit) ≡ chromaAt (strongShort alpha beta) at step (now (plane .entry)) ⌝ }
+{
+    let b = at + step;
+    let c = b + step;
+    let d = c + step;
+    let r = chroma::strong_line(alpha, beta, plane[at], plane[b], plane[c], plane[d]);
+    put_two(plane, b, step, r);
+}
+
+// Chroma at the strength bs.
+pub fn filter_chroma_line(
+    plane: &mut [u8],
+    at: usize,
+    step: usize,
+    bs: u8,
+    alpha: u8,
+    beta: u8,
+    tc0: u8,
+)
+    requires { ⌜ at + 3 * step < length (now plane) ⌝ }
+    ensures { λ _. ⌜ now (plane .exit) ≡ chromaAt (chromaLine 255 bs alpha beta tc0) at step (now (plane .entry)) ⌝ }
+{
+    if bs == 0 {
+        return;
+    }
+    if bs < 4 {
+        chroma_normal(plane, at, step, alpha, beta, tc0);
+        return;
+    }
+    chroma_strong(plane, at, step, alpha, beta);
+}

@@ -39,7 +39,7 @@ returns : tie.Need-returns
 returns c =
     let k = c .before in
     nat-reads w16 (k .index .result) 51 (omega arith) tt
-    ∙ sym (by-index (k .before .args .offset) (k .before .args .qp) ∙ ap (λ (i : ℕ). qpcOf (pos i)) (sym (at k)) ∙ below (k .index .result) (c .if1 .taken))
+    ∙ sym (by-index (k .before .args .offset) (k .before .args .qp) ∙ ap (λ (i : ℕ). qpcOf (pos i)) (sym (at k)) ∙ below (k .index .result) (omega arith))
 
 returns-2 : tie.Need-returns-2
 unfolding qpcs
@@ -47,7 +47,7 @@ returns-2 c =
     let k = c .before .before in
     nat-reads w16 (c .qpc-at .result) 39 (rw (c .qpc-at .ensures) (at-most 39 qpcs tt (k .index .result - 30))) tt
     ∙ ap pos (c .qpc-at .ensures)
-    ∙ sym (by-index (k .before .args .offset) (k .before .args .qp) ∙ ap (λ (i : ℕ). qpcOf (pos i)) (sym (at k)) ∙ above (k .index .result) (c .before .if1 .left))
+    ∙ sym (by-index (k .before .args .offset) (k .before .args .qp) ∙ ap (λ (i : ℕ). qpcOf (pos i)) (sym (at k)) ∙ above (k .index .result) (omega arith))
 
 pub chroma-qp-spec : {M : Type 1} → statement M
 chroma-qp-spec =

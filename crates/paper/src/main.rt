@@ -25,7 +25,8 @@ fn levels(name: &[u8], qp: i32, offset: i32) {
         tc1,
         tc2,
         tc3,
-    } = limits else {
+    } = limits
+    else {
         text(b" nothing to do\n");
         return;
     };

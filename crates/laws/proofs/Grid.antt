@@ -59,6 +59,13 @@ apart W w a b l n bx by s t = go (meet (a % W) (a / W) (b % W) (b / W) bx by s t
 pub index-lt : (W H x y : ℕ) → x < W → y < H → y * W + x < W * H
 index-lt W H x y a b = omega (arith, mul-le-mul-right W b)
 
+-- rows of w: one that is not the first starts a width in, and one below h ends before h rows do
+pub row-pos : (y w : ℕ) → 0 < y → w ≤ y * w
+row-pos y w h = omega (arith, mul-le-mul-right {m = 1} {n = y} w h)
+
+pub row-fits : (y w h : ℕ) → y < h → y * w + w ≤ w * h
+row-fits y w h p = omega (arith, mul-le-mul-right {m = y + 1} {n = h} w (omega arith))
+
 -- ---- the samples
 -- the place at row r and column c of a plane
 pub foot-at : (N W i r c : ℕ) → c < N * W → Touch (i % W) (i / W) (c / N) (r / N) → Foot N W i (r * (N * W) + c)

@@ -1,11 +1,15 @@
 pub mod Abs
 pub mod Clip
 pub mod Cond
+pub mod Equal
 pub mod Grid
 pub mod Ints
+pub mod Lists
 pub mod Local
 pub mod Loop
 pub mod Num
 pub mod Places
 pub mod Raster
+pub mod Refusal
+pub mod Some
 pub mod Table

@@ -16,18 +16,18 @@ and-right true b t = t
 and-right false b t = absurd t
 
 -- the test f passes at each entry of the list and its place, counted from i
-abbrev pub every : (ℕ → ℕ → Bool) → ℕ → List ℕ → Bool
-every f i [] = true
-every f i (x ∷ xs) = f i x && every f (suc i) xs
+abbrev pub passes : (ℕ → ℕ → Bool) → ℕ → List ℕ → Bool
+passes f i [] = true
+passes f i (x ∷ xs) = f i x && passes f (suc i) xs
 
-from : (f : ℕ → ℕ → Bool) (xs : List ℕ) (i : ℕ) → T (every f i xs) → (k : ℕ) → k < length xs → T (f (i + k) (getD xs k 0))
+from : (f : ℕ → ℕ → Bool) (xs : List ℕ) (i : ℕ) → T (passes f i xs) → (k : ℕ) → k < length xs → T (f (i + k) (getD xs k 0))
 from f [] i t k h = absurd (not-suc-le-zero h)
-from f (x ∷ xs) i t zero h = subst (λ (m : ℕ). T (f m x)) (sym (add-zero i)) (and-left (f i x) (every f (suc i) xs) t)
+from f (x ∷ xs) i t zero h = subst (λ (m : ℕ). T (f m x)) (sym (add-zero i)) (and-left (f i x) (passes f (suc i) xs) t)
 from f (x ∷ xs) i t (suc k) h =
     subst (λ (m : ℕ). T (f m (getD xs k 0))) (suc-add i k ∙ sym (add-suc i k))
-    (from f xs (suc i) (and-right (f i x) (every f (suc i) xs) t) k (le-of-suc-le-suc h))
+    (from f xs (suc i) (and-right (f i x) (passes f (suc i) xs) t) k (le-of-suc-le-suc h))
 
-pub table-at : (f : ℕ → ℕ → Bool) (xs : List ℕ) → T (every f 0 xs) → (k : ℕ) → k < length xs → T (f k (getD xs k 0))
+pub table-at : (f : ℕ → ℕ → Bool) (xs : List ℕ) → T (passes f 0 xs) → (k : ℕ) → k < length xs → T (f k (getD xs k 0))
 table-at f xs t k h = subst (λ (m : ℕ). T (f m (getD xs k 0))) (zero-add k) (from f xs 0 t k h)
 
 -- a bound of each entry holds at every place, past the end too

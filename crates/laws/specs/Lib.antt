@@ -1,7 +1,10 @@
 pub mod Cases
 pub mod Clip
+pub mod Equal
 pub mod Grid
 pub mod Local
 pub mod Loop
 pub mod Places
 pub mod Raster
+pub mod Refusal
+pub mod Some

@@ -1,0 +1,15 @@
+pub mod Segments
+pub mod Idle
+pub mod Rules
+pub mod Ways
+pub mod Made
+pub mod Room
+pub mod Wider
+pub mod Local
+pub mod Foot
+pub mod Steps
+pub mod Samples
+pub mod Pictures
+pub mod Shut
+pub mod Examples
+pub mod Refused

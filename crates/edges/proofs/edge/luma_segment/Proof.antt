@@ -1,0 +1,35 @@
+-- `luma_segment`: after k turns the first k lines are filtered. Assumes nothing.
+use Prim.Native.Nat.{_-_, _≤_, _*_}
+use mathlib.Core.Path.{_≡_}
+use native.Mathlib.Omega.{arith}
+use lib.ListN.{length}
+use Rattle.laws.specs.Loop.{upTo}
+use Rattle.laws.proofs.Loop.{loops, mul-below}
+use Rattle.lines.specs.Luma.{lumaLine}
+use Rattle.edges.specs.Edge.{lumaLines}
+use Rattle.edges.proofs.edge.luma_segment.Statement.{statement}
+use Rattle.edges.proofs.edge.luma_segment.Tie as tie
+
+abbrev Inv : tie.InvT-loop
+Inv plane₀ at along step bs alpha beta tc k₀ plane k =
+    (k ≤ 4) × (length plane ≡ length plane₀) × (plane ≡ upTo k (lumaLines (lumaLine 255 bs alpha beta tc) at along step) plane₀)
+
+abbrev μ : tie.MeasureT-loop
+μ plane₀ at along step bs alpha beta tc k₀ plane k = 4 - k
+
+bound : (c : tie.In-loop Inv μ) → c .before .loop .k * c .before .before .before .args .along ≤ 3 * c .before .before .before .args .along
+bound c = mul-below _ 4 _ (omega arith)
+
+pub luma-segment-spec : {M : Type 1} → statement M
+luma-segment-spec =
+    tie.close
+    (tie.spec Inv μ
+    (λ c. search loops)
+    (λ c. omega (arith, bound (c .before)))
+    (λ c. omega (arith, bound (c .before)))
+    (λ c κs. omega (arith, bound (c .before)))
+    (λ c. search loops)
+    (λ c. search loops)
+    (λ c. search loops)
+    (λ c. search loops)
+    (λ c. search loops))

@@ -1,0 +1,150 @@
+// One macroblock in one plane: its vertical edges, then its horizontal ones. Its 32 strengths stand at `first` in `bs`.
+ghost use mathlib.Core.Path.{_≡_};
+ghost use Prim.Native.Nat.{_+_, _-_, _*_, _<_, _≤_};
+ghost use mathlib.Core.Bool.{true, cond};
+ghost use lib.ListN.{length};
+ghost use Rattle.edges.specs.Edge.{lumaEdge, chromaEdge};
+ghost use Rattle.edges.specs.Levels.{lumaBy, chromaBy};
+ghost use Rattle.edges.specs.Macroblock.{after, idleOf, lumaWay, chromaWay, lumaBoth, chromaBoth};
+ghost use Rattle.edges.specs.Picture.{entries};
+use crate::edge::chroma_edge;
+use crate::edge::luma_edge;
+use crate::levels::Three;
+use lines::limits::Limits;
+
+// An edge, if it is to be filtered. `q` is the place of its first line's q0.
+fn luma_edge_if(
+    on: bool,
+    plane: &mut [u8],
+    q: usize,
+    along: usize,
+    step: usize,
+    bs: &[u8],
+    first: usize,
+    limits: Limits,
+)
+    requires { ⌜ (on ≡ true → 4 * step ≤ q) × (q + 15 * along + 3 * step < length (now plane)) × (first + 4 ≤ length (now bs)) ⌝ }
+    ensures { λ _. ⌜ now (plane .exit) ≡ cond on (lumaEdge (lumaBy limits) (after first (entries (now (bs .entry)))) (q - 4 * step) along step (now (plane .entry))) (now (plane .entry)) ⌝ }
+{
+    if on {
+        luma_edge(plane, q - 4 * step, along, step, bs, first, limits);
+    }
+}
+
+fn chroma_edge_if(
+    on: bool,
+    plane: &mut [u8],
+    q: usize,
+    along: usize,
+    step: usize,
+    bs: &[u8],
+    first: usize,
+    limits: Limits,
+)
+    requires { ⌜ (on ≡ true → 2 * step ≤ q) × (q + 7 * along + step < length (now plane)) × (first + 4 ≤ length (now bs)) ⌝ }
+    ensures { λ _. ⌜ now (plane .exit) ≡ cond on (chromaEdge (chromaBy limits) (after first (entries (now (bs .entry)))) (q - 2 * step) along step (now (plane .entry))) (now (plane .entry)) ⌝ }
+{
+    if on {
+        chroma_edge(plane, q - 2 * step, along, step, bs, first, limits);
+    }
+}
+
+// The luma edges of one direction.
+fn luma_way(
+    plane: &mut [u8],
+    near: bool,
+    t8: bool,
+    origin: usize,
+    along: usize,
+    step: usize,
+    bs: &[u8],
+    first: usize,
+    border: Limits,
+    inside: Limits,
+)
+    requires { ⌜ (near ≡ true → 4 * step ≤ origin) × (origin + 15 * along + 15 * step < length (now plane)) × (first + 16 ≤ length (now bs)) ⌝ }
+    ensures { λ _. ⌜ now (plane .exit) ≡ lumaWay (lumaBy border) (lumaBy inside) near t8 (after first (entries (now (bs .entry)))) origin along step (now (plane .entry)) ⌝ }
+{
+    let q1 = origin + 4 * step;
+    let q2 = origin + 8 * step;
+    let q3 = origin + 12 * step;
+    luma_edge_if(near, plane, origin, along, step, bs, first, border);
+    luma_edge_if(!t8, plane, q1, along, step, bs, first + 4, inside);
+    luma_edge_if(true, plane, q2, along, step, bs, first + 8, inside);
+    luma_edge_if(!t8, plane, q3, along, step, bs, first + 12, inside);
+}
+
+// The chroma edges of one direction, with the strengths of luma's edges 0 and 2.
+fn chroma_way(
+    plane: &mut [u8],
+    near: bool,
+    origin: usize,
+    along: usize,
+    step: usize,
+    bs: &[u8],
+    first: usize,
+    border: Limits,
+    inside: Limits,
+)
+    requires { ⌜ (near ≡ true → 2 * step ≤ origin) × (origin + 7 * along + 7 * step < length (now plane)) × (first + 16 ≤ length (now bs)) ⌝ }
+    ensures { λ _. ⌜ now (plane .exit) ≡ chromaWay (chromaBy border) (chromaBy inside) near (after first (entries (now (bs .entry)))) origin along step (now (plane .entry)) ⌝ }
+{
+    let q = origin + 4 * step;
+    chroma_edge_if(near, plane, origin, along, step, bs, first, border);
+    chroma_edge_if(true, plane, q, along, step, bs, first + 8, inside);
+}
+
+// All luma edges, in a plane whose rows are `stride` samples; `origin` is the macroblock's first.
+pub fn luma(
+    plane: &mut [u8],
+    left: bool,
+    top: bool,
+    t8: bool,
+    origin: usize,
+    stride: usize,
+    bs: &[u8],
+    first: usize,
+    limits: Three,
+)
+    requires { ⌜ (left ≡ true → 4 * 1 ≤ origin) × (top ≡ true → 4 * stride ≤ origin) × (origin + 15 * stride + 15 < length (now plane)) × (first + 32 ≤ length (now bs)) ⌝ }
+    ensures { λ _. ⌜ now (plane .exit) ≡ lumaBoth (lumaBy (limits .left)) (lumaBy (limits .top)) (lumaBy (limits .inner)) left top t8 (after first (entries (now (bs .entry)))) origin stride (now (plane .entry)) ⌝ }
+{
+    let l = limits.left;
+    let t = limits.top;
+    let i = limits.inner;
+    luma_way(plane, left, t8, origin, stride, 1, bs, first, l, i);
+    luma_way(plane, top, t8, origin, 1, stride, bs, first + 16, t, i);
+}
+
+// All edges of one chroma plane.
+pub fn chroma(
+    plane: &mut [u8],
+    left: bool,
+    top: bool,
+    origin: usize,
+    stride: usize,
+    bs: &[u8],
+    first: usize,
+    limits: Three,
+)
+    requires { ⌜ (left ≡ true → 2 * 1 ≤ origin) × (top ≡ true → 2 * stride ≤ origin) × (origin + 7 * stride + 7 < length (now plane)) × (first + 32 ≤ length (now bs)) ⌝ }
+    ensures { λ _. ⌜ now (plane .exit) ≡ chromaBoth (chromaBy (limits .left)) (chromaBy (limits .top)) (chromaBy (limits .inner)) left top (after first (entries (now (bs .entry)))) origin stride (now (plane .entry)) ⌝ }
+{
+    let l = limits.left;
+    let t = limits.top;
+    let i = limits.inner;
+    chroma_way(plane, left, origin, stride, 1, bs, first, l, i);
+    chroma_way(plane, top, origin, 1, stride, bs, first + 16, t, i);
+}
+
+// All 32 strengths are 0.
+pub fn idle(bs: &[u8], first: usize) -> bool
+    requires { ⌜ first + 32 ≤ length (now bs) ⌝ }
+    ensures { λ r. ⌜ r ≡ idleOf (after first (entries (now (bs .entry)))) ⌝ }
+{
+    let mut all = true;
+    for k in 0..32usize {
+        all = all & (bs[first + k] == 0);
+    }
+    all
+}

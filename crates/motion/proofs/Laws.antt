@@ -1,0 +1,114 @@
+-- Laws of the comparison and of the grids, for the crates above. Assumes nothing.
+use mathlib.Core.Path.{_≡_, refl, sym, ap, subst, _∙_}
+use mathlib.Core.Bool.{Bool, true, false, not, cond, _&&_, _||_, and-true, and-comm}
+use mathlib.Core.List.{List, [], _∷_, _++_}
+use Prim.Native.Nat.{ℕ, _≤_}
+use native.Mathlib.Omega.{arith}
+use lib.Dec.{T, lit≤}
+use mir.Facts.{and-yes}
+use Rattle.laws.proofs.Cond.{cond-both}
+use Rattle.motion.specs.Grids.{Grids, Hold}
+use Rattle.motion.specs.Motion.{first, second, ifUsed, used, mate, paired, mismatched, differ, interStrength, equal, sameMotion}
+use Rattle.laws.specs.Equal.{eqZ}
+use Rattle.motion.specs.declared.blocks.Blk.{Blk}
+use Rattle.motion.specs.declared.blocks.Motion.{Motion}
+use Rattle.motion.proofs.Differ.{by-none, by-one, by-two}
+use Rattle.laws.proofs.Equal.{eqZ-self, eqZ→eq, eqZ-comm}
+use Rattle.motion.proofs.Far.{outside-self, outside-comm}
+use Rattle.motion.proofs.Used.{Short, none, one, two, used-short}
+
+-- ---- a block and itself
+mate-self : (v : ℕ) (a : Motion) → mate v a a ≡ true
+mate-self v a = simp (eqZ-self (a .reference), outside-self 3 (a .x), outside-self v (a .y))
+
+self : (v : ℕ) {l : List Motion} → Short l → mismatched v l l ≡ false
+self v none = sym (by-none v)
+self v (one a) = sym (by-one v a a) ∙ ap not (mate-self v a)
+self v (two a b) = sym (by-two v a b a b) ∙ simp (mate-self v a, mate-self v b)
+
+pub differ-self : (v : ℕ) (p : Blk) → differ v p p ≡ false
+unfolding differ
+differ-self v p = self v (used-short p)
+
+-- ---- the same motion
+equal→eq : (a b : Motion) → T (equal a b) → a ≡ b
+equal→eq a b t =
+    let h = and-yes (eqZ (a .reference) (b .reference) && eqZ (a .x) (b .x)) (eqZ (a .y) (b .y)) t in
+    let k = and-yes (eqZ (a .reference) (b .reference)) (eqZ (a .x) (b .x)) (h .0) in
+    λ i. record {
+      reference = eqZ→eq (a .reference) (b .reference) (k .0) i;
+      x = eqZ→eq (a .x) (b .x) (k .1) i;
+      y = eqZ→eq (a .y) (b .y) (h .1) i;
+    }
+
+pub same-used : (p q : Blk) → T (sameMotion p q) → used p ≡ used q
+unfolding sameMotion used
+same-used p q t =
+    let h = and-yes (equal (first p) (first q)) (equal (second p) (second q)) t in
+    λ i. ifUsed (equal→eq (first p) (first q) (h .0) i) ++ ifUsed (equal→eq (second p) (second q) (h .1) i)
+
+pub differ-same : (v : ℕ) (p q : Blk) → T (sameMotion p q) → differ v p q ≡ false
+unfolding differ
+differ-same v p q t = ap (mismatched v (used p)) (sym (same-used p q t)) ∙ self v (used-short p)
+
+-- two blocks of the same motion as a third
+equal-self : (a : Motion) → equal a a ≡ true
+equal-self a = simp (eqZ-self (a .reference), eqZ-self (a .x), eqZ-self (a .y))
+
+pub same-join : (p q f : Blk) → T (sameMotion p f) → T (sameMotion q f) → T (sameMotion p q)
+unfolding sameMotion
+same-join p q f s t =
+    let h = and-yes (equal (first p) (first f)) (equal (second p) (second f)) s in
+    let k = and-yes (equal (first q) (first f)) (equal (second q) (second f)) t in
+    let a = equal→eq (first p) (first f) (h .0) ∙ sym (equal→eq (first q) (first f) (k .0)) in
+    let b = equal→eq (second p) (second f) (h .1) ∙ sym (equal→eq (second q) (second f) (k .1)) in
+    subst (λ (m : Motion). T (equal (first p) m && equal (second p) (second q))) a
+    (subst (λ (m : Motion). T (equal (first p) (first p) && equal (second p) m)) b (rw (equal-self (first p), equal-self (second p)) tt))
+
+-- ---- two blocks the other way round
+mate-comm : (v : ℕ) (a b : Motion) → mate v a b ≡ mate v b a
+mate-comm v a b = λ i. eqZ-comm (a .reference) (b .reference) i && not (outside-comm 3 (a .x) (b .x) i || outside-comm v (a .y) (b .y) i)
+
+paired-comm : (v : ℕ) (a b c d : Motion) → paired v (a ∷ b ∷ []) (c ∷ d ∷ []) ≡ paired v (c ∷ d ∷ []) (a ∷ b ∷ [])
+paired-comm v a b c d =
+    (λ i. mate-comm v a c i && (mate-comm v b d i && true) || mate-comm v a d i && (mate-comm v b c i && true))
+    ∙ ap (λ (t : Bool). mate v c a && (mate v d b && true) || t) (simp and-true (and-comm (mate v d a) (mate v c b)))
+
+turned : (v : ℕ) {l r : List Motion} → Short l → Short r → mismatched v l r ≡ mismatched v r l
+unfolding mismatched
+turned v none none = refl
+turned v none (one c) = refl
+turned v none (two c d) = refl
+turned v (one a) none = refl
+turned v (one a) (one c) = sym (by-one v a c) ∙ ap not (mate-comm v a c) ∙ by-one v c a
+turned v (one a) (two c d) = refl
+turned v (two a b) none = refl
+turned v (two a b) (one c) = refl
+turned v (two a b) (two c d) = sym (by-two v a b c d) ∙ ap not (paired-comm v a b c d) ∙ by-two v c d a b
+
+pub differ-comm : (v : ℕ) (p q : Blk) → differ v p q ≡ differ v q p
+unfolding differ
+differ-comm v p q = turned v (used-short p) (used-short q)
+
+-- ---- the strength
+pub strength-le : (v : ℕ) (p q : Blk) → interStrength v p q ≤ 2
+unfolding interStrength
+strength-le v p q =
+    cond-both (λ (n : ℕ). n ≤ 2) (p .nz || q .nz) (lit≤ tt)
+    (cond-both (λ (n : ℕ). n ≤ 2) (differ v p q) (lit≤ tt) (lit≤ tt))
+
+-- no 1 within a uniform macroblock
+pub strength-same : (v : ℕ) (p q : Blk) → T (sameMotion p q) → interStrength v p q ≡ cond (p .nz || q .nz) 2 0
+unfolding interStrength
+strength-same v p q t = simp (differ-same v p q t)
+
+-- ---- grids that hold n blocks hold fewer
+pub hold-less : {g : Grids} {m n : ℕ} → Hold g n → m ≤ n → Hold g m
+hold-less w h =
+    record {
+      inters = omega arith;
+      counts = omega arith;
+      refs = omega arith;
+      vectors = omega arith;
+      list1 = record { empty = w .list1 .empty; full = λ k. omega (arith, w .list1 .full k) };
+    }

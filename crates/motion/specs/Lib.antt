@@ -1,0 +1,6 @@
+pub mod Cases
+pub mod Far
+pub mod Grids
+pub mod Listed
+pub mod Motion
+pub mod Sets

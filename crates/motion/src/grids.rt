@@ -1,0 +1,107 @@
+// A block is read from its picture's grids.
+// A function that takes both motion grids has one lifetime for the two, and so must every caller have.
+ghost use mathlib.Core.Path.{_≡_};
+ghost use mathlib.Core.Bool.{cond};
+ghost use Prim.Native.Nat.{_+_, _*_, _<_, _≤_};
+ghost use lib.ListN.{length};
+ghost use Rattle.motion.specs.Grids.{grids, Optional, Hold, pairAt, refAt, vectorAt, motionAt, joined, blkAt};
+use crate::blocks::Blk;
+use crate::blocks::Motion;
+
+// The pair of block i, as part of a motion grid.
+fn pair<'a>(mv: &'a [i16], i: usize) -> &'a [i16]
+    requires { ⌜ 2 * i + 2 ≤ length (now mv) ⌝ }
+    ensures { λ r. ⌜ now r ≡ pairAt (now (mv .entry)) i ⌝ }
+{
+    let a = 2 * i;
+    let e = a + 2;
+    &mv[a..e]
+}
+
+// The same of list 1's grid, where `second`, or of list 0's.
+fn mv_at<'a>(mv: &'a [i16], mv1: &'a [i16], second: bool, i: usize) -> &'a [i16]
+    requires { ⌜ 2 * i + 2 ≤ length (cond second (now mv1) (now mv)) ⌝ }
+    ensures { λ r. ⌜ now r ≡ pairAt (cond second (now (mv1 .entry)) (now (mv .entry))) i ⌝ }
+{
+    if second {
+        return pair(mv1, i);
+    }
+    pair(mv, i)
+}
+
+// A reference with the vector of block i.
+fn vector_at<'a>(reference: i32, mv: &'a [i16], mv1: &'a [i16], second: bool, i: usize) -> Motion
+    requires { ⌜ 2 * i + 2 ≤ length (cond second (now mv1) (now mv)) ⌝ }
+    ensures { λ r. ⌜ r ≡ vectorAt reference (cond second (now (mv1 .entry)) (now (mv .entry))) i ⌝ }
+{
+    let p = mv_at(mv, mv1, second, i);
+    let x = p[0];
+    let y = p[1];
+    Motion { reference, x, y }
+}
+
+// The reference of block i.
+fn ref_at(refs: &[i8], i: usize) -> i32
+    requires { ⌜ i < length (now refs) ⌝ }
+    ensures { λ r. ⌜ r ≡ refAt (now (refs .entry)) i ⌝ }
+{
+    refs[i] as i32
+}
+
+// What list 0 holds of block i.
+fn list0<'a>(ref_id: &[i8], mv: &'a [i16], mv1: &'a [i16], i: usize) -> Motion
+    requires { ⌜ (i < length (now «ref_id»)) × (2 * i + 2 ≤ length (now mv)) ⌝ }
+    ensures { λ r. ⌜ r ≡ motionAt (now («ref_id» .entry)) (now (mv .entry)) i ⌝ }
+{
+    vector_at(ref_at(ref_id, i), mv, mv1, false, i)
+}
+
+// What list 1 holds of it. Its grids may be empty.
+fn list1<'a>(ref1: &[i8], mv: &'a [i16], mv1: &'a [i16], i: usize) -> Motion
+    requires { ⌜ Optional (now ref1) (now mv1) (i + 1) ⌝ }
+    ensures { λ r. ⌜ r ≡ motionAt (now (ref1 .entry)) (now (mv1 .entry)) i ⌝ }
+{
+    if ref1.len() == 0 {
+        return Motion {
+            reference: -1,
+            x: 0,
+            y: 0,
+        };
+    }
+    vector_at(ref_at(ref1, i), mv, mv1, true, i)
+}
+
+// A block of what each list holds.
+fn joined(inter: bool, nz: bool, m: Motion, n: Motion) -> Blk
+    ensures { λ r. ⌜ r ≡ joined inter nz m n ⌝ }
+{
+    Blk {
+        inter,
+        nz,
+        ref_id: m.reference,
+        mvx: m.x,
+        mvy: m.y,
+        ref1: n.reference,
+        mv1x: n.x,
+        mv1y: n.y,
+    }
+}
+
+// Block i of the grids.
+pub fn load<'a>(
+    inter: &[u8],
+    nnz: &[u8],
+    ref_id: &[i8],
+    mv: &'a [i16],
+    ref1: &[i8],
+    mv1: &'a [i16],
+    i: usize,
+) -> Blk
+    requires { ⌜ Hold (grids (now inter) (now nnz) (now «ref_id») (now mv) (now ref1) (now mv1)) (i + 1) ⌝ }
+    ensures { λ r. ⌜ r ≡ blkAt (grids (now (inter .entry)) (now (nnz .entry)) (now («ref_id» .entry))
+        (now (mv .entry)) (now (ref1 .entry)) (now (mv1 .entry))) i ⌝ }
+{
+    let m = list0(ref_id, mv, mv1, i);
+    let n = list1(ref1, mv, mv1, i);
+    joined(inter[i] == 1, nnz[i] != 0, m, n)
+}

@@ -1,0 +1,104 @@
+-- A kind that is true of the grids gives the strengths of clause 8.7.2.1: inside the macroblock nothing more need be compared. Assumes nothing.
+use mathlib.Core.Path.{_≡_, refl, sym, ap, subst, _∙_}
+use mathlib.Core.Bool.{Bool, true, false, cond, not, _&&_, _||_}
+use mathlib.Core.List.{List}
+use Prim.Native.Nat.{ℕ, suc, _+_, _-_, _*_, _/_, _%_, _≤_, _<_}
+use native.Mathlib.Omega.{arith}
+use borrow.Author.Tests.{eqb-false, not-true}
+use lib.Dec.{T, eqb, ltb}
+use Rattle.laws.specs.Some.{every}
+use Rattle.laws.proofs.Some.{every-at}
+use Rattle.motion.specs.Grids.{Grids, blkAt}
+use Rattle.motion.specs.Motion.{interStrength, sameMotion}
+use Rattle.motion.proofs.Laws.{same-join, strength-same}
+use Rattle.motion.specs.declared.blocks.Blk.{Blk}
+use Rattle.strengths.specs.Blocks.{origin, own}
+use Rattle.strengths.specs.Checks.{disagree}
+use Rattle.strengths.specs.Strength.{vertical, edge, segment, row, column, qBlock, pBlock, border, skipped, between, strengthAt}
+use Rattle.strengths.specs.Kinds.{first, everyOwn, uniform, flat, isKind, inside, acrossBy, strengthBy}
+use Rattle.strengths.specs.declared.kinds.MbKind.{MbKind}
+use Rattle.strengths.specs.declared.kinds.MbKind.the-variants.{Intra, Skip, InterUniform, Inter}
+use Rattle.strengths.proofs.Agreed.{own-inter, inter-is, intra-is}
+
+-- ---- across an inner edge both blocks are the macroblock's own
+pub record Own (w x y i : ℕ) : Type 0 where
+  pub r : ℕ
+  pub c : ℕ
+  pub row : r < 4
+  pub col : c < 4
+  pub is : i ≡ own w x y r c
+
+four : (n : ℕ) → n % 4 < 4
+four n = omega arith
+
+q-own : (w x y k : ℕ) → Own w x y (qBlock w x y k)
+q-own w x y k = go (vertical k)
+  where
+    go : (b : Bool) → Own w x y (own w x y (cond b (segment k) (edge k)) (cond b (edge k) (segment k)))
+    go true = record { r = segment k; c = edge k; row = four k; col = four (k / 4); is = refl }
+    go false = record { r = edge k; c = segment k; row = four (k / 4); col = four k; is = refl }
+
+p-own : (w x y k : ℕ) → (edge k ≡ 0 → ⊥) → Own w x y (pBlock w x y k)
+p-own w x y k n = go (vertical k)
+  where
+    e : ℕ
+    e = edge k
+
+    up : edge k * (4 * w) ≡ (edge k - 1) * (4 * w) + 4 * w
+    up = let f : edge k ≡ suc (edge k - 1) = omega arith in ap (λ (m : ℕ). m * (4 * w)) f ∙ omega arith
+
+    go : (b : Bool) → Own w x y (own w x y (cond b (segment k) (edge k)) (cond b (edge k) (segment k)) - cond b 1 (4 * w))
+    go true = record { r = segment k; c = edge k - 1; row = four k; col = omega (arith, four (k / 4)); is = omega arith }
+    go false = record { r = edge k - 1; c = segment k; row = omega (arith, four (k / 4)); col = four k; is = omega (arith, up) }
+
+-- ---- what is true of every own block is true of each
+at : (g : Grids) (w x y i : ℕ) (f : Blk → Bool) → everyOwn g w x y f ≡ true → Own w x y i → f (blkAt g i) ≡ true
+at g w x y i f e o = ap (λ (n : ℕ). f (blkAt g n)) (o .is) ∙ every-at 4 (o .c) _ (every-at 4 (o .r) _ e (o .row)) (o .col)
+
+true→T : {b : Bool} → b ≡ true → T b
+true→T e = subst T (sym e) tt
+
+and-both : (s t : Bool) → (s && t) ≡ true → (s ≡ true) × (t ≡ true)
+and-both true t e = (refl, e)
+and-both false t e = let z : false ≡ true = e in (e, cc)
+
+-- two inter blocks of the same motion
+same-inside : (p q : Blk) → p .inter ≡ true → q .inter ≡ true → T (sameMotion p q) → between false p q ≡ cond (p .nz || q .nz) 2 0
+unfolding between
+same-inside p q h k t = simp (h, k, strength-same 3 p q t)
+
+uncoded : (s t : Bool) → s ≡ false → t ≡ false → _≡_ {A = ℕ} (cond (s || t) 2 0) 0
+uncoded s t a b = λ i. cond (a i || b i) 2 0
+
+module _ (g : Grids) (w x y : ℕ) (agree : disagree (g .inter) w x y ≡ false) where
+  inter-of : (i : ℕ) → Own w x y i → blkAt g i .inter ≡ first (g .inter) w x y
+  inter-of i o = ap (λ (n : ℕ). blkAt g n .inter) (o .is) ∙ own-inter g w x y agree (o .r) (o .c) (o .row) (o .col)
+
+  uniform-inside : uniform g w x y ≡ true → (i j : ℕ) → Own w x y i → Own w x y j
+      → between false (blkAt g i) (blkAt g j) ≡ cond (blkAt g i .nz || blkAt g j .nz) 2 0
+  unfolding uniform
+  uniform-inside u i j o p =
+      let a = and-both _ _ (at g w x y i (λ b. b .inter && sameMotion b (blkAt g (origin w x y))) u o) in
+      let b = and-both _ _ (at g w x y j (λ b. b .inter && sameMotion b (blkAt g (origin w x y))) u p) in
+      same-inside (blkAt g i) (blkAt g j) (a .0) (b .0) (same-join (blkAt g i) (blkAt g j) (blkAt g (origin w x y)) (true→T (a .1)) (true→T (b .1)))
+
+  inside-is : (kind : MbKind) → isKind g w x y kind ≡ true → (i j : ℕ) → Own w x y i → Own w x y j
+      → inside kind (blkAt g i) (blkAt g j) ≡ between false (blkAt g i) (blkAt g j)
+  unfolding between flat
+  inside-is Intra e i j o p = let f = not-true _ (sym (intra-is g w x y agree) ∙ e) in simp (inter-of i o ∙ f)
+  inside-is Inter e i j o p = let f = sym (inter-is g w x y agree) ∙ e in simp (inter-of i o ∙ f, inter-of j p ∙ f)
+  inside-is InterUniform e i j o p = sym (uniform-inside e i j o p)
+  inside-is Skip e i j o p =
+      let u = and-both (uniform g w x y) (everyOwn g w x y (λ b. not (b .nz))) e in
+      let a = not-true (blkAt g i .nz) (at g w x y i (λ b. not (b .nz)) (u .1) o) in
+      let b = not-true (blkAt g j .nz) (at g w x y j (λ b. not (b .nz)) (u .1) p) in
+      sym (uniform-inside (u .0) i j o p ∙ uncoded (blkAt g i .nz) (blkAt g j .nz) a b)
+
+  -- a true kind gives the strengths of the standard
+  pub kind-is : (kind : MbKind) → isKind g w x y kind ≡ true → (t8 : Bool) (k : ℕ) → strengthBy kind g w t8 x y k ≡ strengthAt g w t8 x y k
+  unfolding strengthBy strengthAt
+  kind-is kind e t8 k = ap (λ (n : ℕ). cond (border x y k || skipped t8 k) 0 n) (go (eqb (edge k) 0) refl)
+    where
+      go : (b : Bool) → eqb (edge k) 0 ≡ b → acrossBy kind b (blkAt g (pBlock w x y k)) (blkAt g (qBlock w x y k)) ≡ between b (blkAt g (pBlock w x y k)) (blkAt g (qBlock w x y k))
+      go true f = refl
+      go false f = inside-is kind e (pBlock w x y k) (qBlock w x y k) (p-own w x y k (eqb-false (edge k) 0 f)) (q-own w x y k)

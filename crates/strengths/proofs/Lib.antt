@@ -1,0 +1,6 @@
+pub mod Agreed
+pub mod Beside
+pub mod ByKind
+pub mod Outcomes
+pub mod Passed
+pub mod Sized

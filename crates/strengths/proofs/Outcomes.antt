@@ -1,0 +1,92 @@
+-- The ways out of a strength call, as its promise has them; and that the promise allows one outcome only. Assumes nothing.
+use mathlib.Core.Path.{_≡_, refl, sym, ap, _∙_}
+use mathlib.Core.Bool.{Bool, true, false, cond, not, _&&_, _||_}
+use mathlib.Core.List.{List, [], _∷_, _++_}
+use Prim.Native.Nat.{ℕ, _+_, _*_}
+use borrow.Author.Tests.{eq-eqb, ne-eqb, not-false}
+use lib.Dec.{eqb}
+use lib.ListN.{length}
+use Rattle.laws.specs.Refusal.{refusal}
+use Rattle.laws.proofs.Refusal.{Numbered, nonzero, passed, refusal-cut, refusal-left, refusal-right}
+use Rattle.motion.specs.Grids.{Grids}
+use Rattle.strengths.specs.Checks.{disagree}
+use Rattle.strengths.specs.Strength.{strengthAt, written}
+use Rattle.strengths.specs.Kinds.{first, uniform, flat, isKind, strengthBy}
+use Rattle.strengths.specs.Flags.{kindOf}
+use Rattle.strengths.specs.Calls.{numbers, blocks, checks, answerOf, untrueFlags, Outcome}
+use Rattle.strengths.specs.declared.kinds.MbKind.{MbKind}
+use Rattle.strengths.specs.declared.kinds.MbKind.the-variants.{Intra, Skip, InterUniform, Inter}
+use Rattle.edges.specs.declared.Size.{Size}
+use Rattle.strengths.specs.declared.kinds.Flagged.{Flagged}
+use Rattle.strengths.proofs.Agreed.{inter-is, intra-is}
+use Rattle.strengths.proofs.ByKind.{kind-is}
+use Rattle.strengths.proofs.Passed.{Good, good}
+use Rattle.strengths.proofs.Sized.{or-false}
+
+module _ (z : Size) (x y : ℕ) (g : Grids) (n : ℕ) where
+  first-four : Numbered (numbers z x y g n)
+  first-four = (nonzero 1 tt, (nonzero 2 tt, (nonzero 4 tt, (nonzero 5 tt, tt))))
+
+  all : Numbered (checks z x y g n)
+  all = (nonzero 1 tt, (nonzero 2 tt, (nonzero 4 tt, (nonzero 5 tt, (nonzero 7 tt, (nonzero 10 tt, (nonzero 11 tt, tt)))))))
+
+  -- ---- what is known once checks 1 to 11 have passed
+  pub is-good : refusal (checks z x y g n) ≡ 0 → Good z x y g n
+  is-good e = good z x y g n (refusal-left (numbers z x y g n) (blocks z x y g) first-four e)
+
+  pub agrees : refusal (checks z x y g n) ≡ 0 → disagree (g .inter) (z .w) x y ≡ false
+  agrees e =
+      passed (blocks z x y g) (nonzero 7 tt, (nonzero 10 tt, (nonzero 11 tt, tt))) (refusal-right (numbers z x y g n) (blocks z x y g) first-four e) .1 .1 .0
+
+  -- ---- the answer, by the checks before 12
+  answer-cut : (untrue : Bool) → answerOf z x y g untrue n ≡ cond (eqb (refusal (checks z x y g n)) 0) (cond untrue 12 0) (refusal (checks z x y g n))
+  unfolding answerOf
+  answer-cut untrue = refusal-cut (checks z x y g n) ((12, untrue) ∷ []) all
+
+  -- the checks may be made in two parts
+  pub checks-cut : refusal (checks z x y g n) ≡ cond (eqb (refusal (numbers z x y g n)) 0) (refusal (blocks z x y g)) (refusal (numbers z x y g n))
+  checks-cut = refusal-cut (numbers z x y g n) (blocks z x y g) first-four
+
+module _ (z : Size) (x y : ℕ) (t8 : Bool) (g : Grids) (untrue : Bool) (s : List ℕ) where
+  pub refused : (n : ℕ) → n ≡ refusal (checks z x y g (length s)) → (n ≡ 0 → ⊥) → Outcome z x y t8 g untrue s n s
+  refused n e h = record {
+    says = e ∙ sym (answer-cut z x y g (length s) untrue ∙ ap (λ (b : Bool). cond b (cond untrue 12 0) (refusal (checks z x y g (length s)))) (ne-eqb _ 0 (λ k. h (e ∙ k))));
+    leaves = rw (ne-eqb n 0 h);
+  }
+
+  pub untrue-12 : refusal (checks z x y g (length s)) ≡ 0 → untrue ≡ true → Outcome z x y t8 g untrue s 12 s
+  untrue-12 e u = record {
+    says = sym (answer-cut z x y g (length s) untrue ∙ (λ i. cond (eqb (e i) 0) (cond (u i) 12 0) (e i)));
+    leaves = refl;
+  }
+
+  -- done by a kind that is true
+  pub done : (kind : MbKind) (s′ : List ℕ) → refusal (checks z x y g (length s)) ≡ 0 → untrue ≡ false → isKind g (z .w) x y kind ≡ true
+      → s′ ≡ written (y * z .w + x) (strengthBy kind g (z .w) t8 x y) s → Outcome z x y t8 g untrue s 0 s′
+  done kind s′ e u k w = record {
+    says = sym (answer-cut z x y g (length s) untrue ∙ (λ i. cond (eqb (e i) 0) (cond (u i) 12 0) (e i)));
+    leaves = w ∙ (λ i. written (y * z .w + x) (λ (b : ℕ). kind-is g (z .w) x y (agrees z x y g (length s) e) kind k t8 b i) s);
+  }
+
+  -- two outcomes that the promise allows are equal
+  pub unique : (n m : ℕ) (s₁ s₂ : List ℕ) → Outcome z x y t8 g untrue s n s₁ → Outcome z x y t8 g untrue s m s₂ → (n ≡ m) × (s₁ ≡ s₂)
+  unique n m s₁ s₂ a b =
+      let e = a .says ∙ sym (b .says) in
+      (e, a .leaves ∙ ap (λ (k : ℕ). cond (eqb k 0) (written (y * z .w + x) (strengthAt g (z .w) t8 x y) s) s) e ∙ sym (b .leaves))
+
+-- ---- flags that are true amount to a true kind
+flag-true : (b t : Bool) → b ≡ true → (b && not t) ≡ false → t ≡ true
+flag-true b t e f = not-false t (sym (ap (λ (c : Bool). c && not t) e) ∙ f)
+
+module _ (g : Grids) (w x y : ℕ) (agree : disagree (g .inter) w x y ≡ false) where
+  pub flags-kind : (a u : Bool) → ((a && not (flat g w x y)) || (u && not (uniform g w x y))) ≡ false → isKind g w x y (kindOf (first (g .inter) w x y) a u) ≡ true
+  flags-kind a u e = go (first (g .inter) w x y) refl a u refl refl
+    where
+      o : ((a && not (flat g w x y)) ≡ false) × ((u && not (uniform g w x y)) ≡ false)
+      o = or-false (a && not (flat g w x y)) (u && not (uniform g w x y)) e
+
+      go : (f : Bool) → first (g .inter) w x y ≡ f → (b v : Bool) → a ≡ b → u ≡ v → isKind g w x y (kindOf f b v) ≡ true
+      go false e b v p q = intra-is g w x y agree ∙ ap not e
+      go true e true v p q = flag-true a (flat g w x y) p (o .0)
+      go true e false true p q = flag-true u (uniform g w x y) q (o .1)
+      go true e false false p q = inter-is g w x y agree ∙ e

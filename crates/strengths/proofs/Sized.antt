@@ -1,0 +1,51 @@
+-- What check 1 says when it does not apply. Assumes nothing.
+use mathlib.Core.Path.{_≡_, refl}
+use mathlib.Core.Bool.{Bool, true, false, _||_}
+use Prim.Native.Nat.{ℕ, _*_, _≤_, _<_}
+use native.Mathlib.Nat.{mul-le-mul}
+use native.Mathlib.Omega.{arith}
+use borrow.Author.Tests.{eqb-false, ltb-false}
+use lib.Dec.{eqb, ltb}
+use Rattle.strengths.specs.Checks.{badSize}
+use Rattle.edges.specs.declared.Size.{Size}
+
+pub or-false : (s t : Bool) → (s || t) ≡ false → (s ≡ false) × (t ≡ false)
+or-false true t e = let z : true ≡ false = e in (e, cc)
+or-false false t e = (refl, e)
+
+-- both sides are 1 to 256
+pub record Sides (w h : ℕ) : Type 0 where
+  pub wide : 0 < w
+  pub w-most : w ≤ 256
+  pub high : 0 < h
+  pub h-most : h ≤ 256
+  pub area : w * h ≤ 65536
+
+pub sides : (w h : ℕ) → (eqb w 0 || ltb 256 w || eqb h 0 || ltb 256 h) ≡ false → Sides w h
+sides w h e =
+    let a = or-false (eqb w 0 || ltb 256 w || eqb h 0) (ltb 256 h) e in
+    let b = or-false (eqb w 0 || ltb 256 w) (eqb h 0) (a .0) in
+    let c = or-false (eqb w 0) (ltb 256 w) (b .0) in
+    let p = ltb-false 256 w (c .1) in
+    let q = ltb-false 256 h (a .1) in
+    let m = mul-le-mul p q in
+    record {
+      wide = positive w (eqb-false w 0 (c .0));
+      w-most = p;
+      high = positive h (eqb-false h 0 (b .1));
+      h-most = q;
+      area = omega arith;
+    }
+  where
+    positive : (n : ℕ) → (n ≡ 0 → ⊥) → 0 < n
+    positive n h = omega arith
+
+-- .. and the product is at most 36,864
+pub record Sized (z : Size) : Type 0 where
+  pub both : Sides (z .w) (z .h)
+  pub most : z .w * z .h ≤ 36864
+
+pub sized : (z : Size) → badSize z ≡ false → Sized z
+sized z e =
+    let a = or-false (eqb (z .w) 0 || ltb 256 (z .w) || eqb (z .h) 0 || ltb 256 (z .h)) (ltb 36864 (z .w * z .h)) e in
+    record { both = sides (z .w) (z .h) (a .0); most = ltb-false 36864 (z .w * z .h) (a .1) }

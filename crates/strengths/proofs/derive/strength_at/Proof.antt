@@ -1,0 +1,56 @@
+-- `strength_at`: the blocks beside the edge are those of the definition. Assumes nothing.
+use borrow.Author.Needs.{needs}
+use mathlib.Core.Path.{_≡_, sym, ap, _∙_}
+use mathlib.Core.Bool.{false, cond, _||_}
+use Prim.Native.Nat.{ℕ, _+_, _-_, _*_, _≤_}
+use native.Mathlib.Omega.{arith}
+use lib.Dec.{eqb, ltb}
+use Rattle.motion.proofs.Laws.{hold-less}
+use Rattle.strengths.specs.Strength.{border, skipped, qBlock}
+use Rattle.strengths.specs.Kinds.{acrossBy, strengthBy}
+use Rattle.strengths.proofs.Beside.{across-fits}
+use Rattle.strengths.proofs.derive.strength_at.Statement.{statement}
+use Rattle.strengths.proofs.derive.strength_at.Tie as tie
+
+busy : (c : tie.Else1) → let a = c .before .before .before .before .args in (border (a .x) (a .y) (a .k) || skipped (a .t8) (a .k)) ≡ false
+busy c = sym (c .before .idle .ensures) ∙ c .if1 .left
+
+-- there is a block across the edge
+fits : (c : tie.After-by-way) → c .by-way .result ≤ c .before .q-block .result
+fits c =
+    let e = c .before .before in
+    let a = e .before .before .before .before .args in
+    rw (c .by-way .ensures, c .before .q-block .ensures .0) (across-fits (a .w) (a .x) (a .y) (a .k) (a .t8) (busy e))
+
+most : (c : tie.After-q-block) → let a = c .before .before .before .before .before .args in c .q-block .result ≤ 16 * (a .y * a .w) + 4 * a .x + 12 * a .w + 3
+most c = c .q-block .ensures .1
+
+returns : tie.Need-returns
+unfolding strengthBy
+returns c = simp (sym (c .before .idle .ensures) ∙ c .if1 .taken)
+
+returns-2 : tie.Need-returns-2
+unfolding strengthBy
+returns-2 c =
+    let e = c .before .before .before .before .before in
+    simp (busy e)
+    (rw (c .before .load2 .ensures, c .before .before .load .ensures, c .before .before .before .by-way .ensures, c .before .before .before .before .q-block .ensures .0) at (c .across .ensures))
+
+pub strength-at-spec : {M : Type 1} → statement M
+strength-at-spec =
+    tie.close
+    (tie.spec
+    (λ c κs. search needs)
+    returns
+    (λ c. search needs)
+    (λ c. search needs)
+    (λ c. search needs)
+    (λ c. search needs)
+    (λ c κs. search needs)
+    (λ c. search needs)
+    (λ c κs. search needs)
+    (λ c κs. hold-less (c .before .before .before .before .before .before .pre .0) (omega (arith, most (c .before))))
+    (λ c. omega (arith, fits (c .before)))
+    (λ c κs. hold-less (c .before .before .before .before .before .before .before .pre .0) (omega (arith, most (c .before .before))))
+    (λ c κs. search needs)
+    returns-2)

@@ -1,0 +1,36 @@
+-- The 4x4 blocks that the strengths of macroblock (x, y) read, as indices into grids with rows of 4 * w blocks: its own 16, four to the left, four above.
+use Prim.Native.Nat.{ℕ, _+_, _-_, _*_, _<_}
+use mathlib.Core.Bool.{Bool, _&&_, _||_}
+use lib.Dec.{ltb}
+use Rattle.laws.specs.Some.{some}
+
+-- the first of its own: row 4 * y, column 4 * x
+abbrev pub origin : ℕ → ℕ → ℕ → ℕ
+origin w x y = 16 * (y * w) + 4 * x
+
+-- the one in its row r and column c
+abbrev pub own : ℕ → ℕ → ℕ → ℕ → ℕ → ℕ
+own w x y r c = origin w x y + r * (4 * w) + c
+
+-- a row of places, `step` apart, whose first is `back` before `at`
+abbrev pub beside : ℕ → ℕ → ℕ → ℕ → ℕ
+beside at back step k = at - back + k * step
+
+-- the k-th to the left and the k-th above, where there are any
+abbrev pub left : ℕ → ℕ → ℕ → ℕ → ℕ
+left w x y k = beside (origin w x y) 1 (4 * w) k
+
+abbrev pub above : ℕ → ℕ → ℕ → ℕ → ℕ
+above w x y k = beside (origin w x y) (4 * w) 1 k
+
+-- a block that is read passes the test f
+unfoldable pub someRead : ℕ → ℕ → ℕ → (ℕ → Bool) → Bool
+someRead w x y f =
+    some 4 (λ r. some 4 (λ c. f (own w x y r c)))
+    || (ltb 0 x && some 4 (λ k. f (left w x y k)))
+    || (ltb 0 y && some 4 (λ k. f (above w x y k)))
+
+-- the macroblock's blocks lie in grids of n blocks
+pub record Inside (w x y n : ℕ) : Type 0 where
+  pub column : x < w
+  pub last : own w x y 3 3 < n

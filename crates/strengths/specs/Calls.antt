@@ -1,0 +1,53 @@
+-- What the three strength calls promise: one answer and one final content of the strengths grid, for every input. The grids are only read.
+use Prim.Native.Nat.{ℕ, _+_, _*_}
+use mathlib.Core.Path.{_≡_}
+use mathlib.Core.Bool.{Bool, false, cond, not, _&&_, _||_}
+use mathlib.Core.List.{List, [], _∷_, _++_}
+use lib.Dec.{eqb}
+use lib.ListN.{length}
+use Rattle.laws.specs.Refusal.{refusal}
+use Rattle.motion.specs.Grids.{Grids}
+use Rattle.strengths.specs.Checks.{badSize, outsideOf, badStrengths, badBlocks, badInter, badRefs, disagree}
+use Rattle.strengths.specs.Kinds.{isKind, flat, uniform}
+use Rattle.strengths.specs.Strength.{strengthAt, written}
+use Rattle.strengths.specs.declared.kinds.MbKind.{MbKind}
+use Rattle.edges.specs.declared.Size.{Size}
+use Rattle.strengths.specs.declared.kinds.Request.{Request}
+use Rattle.strengths.specs.declared.kinds.Flagged.{Flagged}
+use Rattle.strengths.specs.declared.kinds.Plain.{Plain}
+
+-- ---- checks 1 to 11; n is the length of the strengths grid
+abbrev pub numbers : Size → ℕ → ℕ → Grids → ℕ → List (ℕ × Bool)
+numbers z x y g n =
+    (1, badSize z) ∷ (2, outsideOf z x y) ∷ (4, badStrengths z n) ∷ (5, badBlocks (16 * (z .w * z .h)) g) ∷ []
+
+abbrev pub blocks : Size → ℕ → ℕ → Grids → List (ℕ × Bool)
+blocks z x y g = (7, badInter g (z .w) x y) ∷ (10, badRefs g (z .w) x y) ∷ (11, disagree (g .inter) (z .w) x y) ∷ []
+
+abbrev pub checks : Size → ℕ → ℕ → Grids → ℕ → List (ℕ × Bool)
+checks z x y g n = numbers z x y g n ++ blocks z x y g
+
+-- ---- the answer: `untrue` is check 12
+unfoldable pub answerOf : Size → ℕ → ℕ → Grids → Bool → ℕ → ℕ
+answerOf z x y g untrue n = refusal (checks z x y g n ++ ((12, untrue) ∷ []))
+
+-- the kind, or a flag that is set, is not true of the grids
+abbrev pub untrueKind : Size → Request → Grids → Bool
+untrueKind z r g = not (isKind g (z .w) (r .x) (r .y) (r .kind))
+
+abbrev pub untrueFlags : ℕ → Flagged → Grids → Bool
+untrueFlags w r g = (r .flat && not (flat g w (r .x) (r .y))) || (r .uniform && not (uniform g w (r .x) (r .y)))
+
+-- ---- an outcome: the answer n, and the grid before and after. A refusal leaves it as it was; else the 32 bytes of the macroblock are written and no other
+pub record Outcome (z : Size) (x y : ℕ) (t8 : Bool) (g : Grids) (untrue : Bool) (s : List ℕ) (n : ℕ) (s′ : List ℕ) : Type 0 where
+  pub says : n ≡ answerOf z x y g untrue (length s)
+  pub leaves : s′ ≡ cond (eqb n 0) (written (y * z .w + x) (strengthAt g (z .w) t8 x y) s) s
+
+abbrev pub KindOutcome : Size → Request → Grids → List ℕ → ℕ → List ℕ → Type 0
+KindOutcome z r g = Outcome z (r .x) (r .y) false g (untrueKind z r g)
+
+abbrev pub FlagsOutcome : Size → Flagged → Grids → List ℕ → ℕ → List ℕ → Type 0
+FlagsOutcome z r g = Outcome z (r .x) (r .y) (r .t8) g (untrueFlags (z .w) r g)
+
+abbrev pub PlainOutcome : Size → Plain → Grids → List ℕ → ℕ → List ℕ → Type 0
+PlainOutcome z r g = Outcome z (r .x) (r .y) (r .t8) g false

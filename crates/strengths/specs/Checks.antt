@@ -1,0 +1,57 @@
+-- The checks of a strength call, each as whether it applies: document 01, "Numbers a call returns".
+use Prim.Native.Nat.{ℕ, _+_, _-_, _*_}
+use mathlib.Core.Bool.{Bool, not, _&&_, _||_}
+use mathlib.Core.List.{List}
+use lib.Dec.{eqb, ltb, leb}
+use lib.IntN.{ℤ, pos, negsuc}
+use lib.ListN.{length, getD}
+use lib.Signed.{ltZ}
+use Rattle.laws.specs.Some.{some}
+use Rattle.motion.specs.Grids.{Grids, refAt}
+use Rattle.strengths.specs.Blocks.{origin, own, left, above, someRead}
+use Rattle.edges.specs.declared.Size.{Size}
+
+-- 1: W, H or their product is outside its range
+abbrev pub badSize : Size → Bool
+badSize z = eqb (z .w) 0 || ltb 256 (z .w) || eqb (z .h) 0 || ltb 256 (z .h) || ltb 36864 (z .w * z .h)
+
+-- 2: the macroblock is outside the picture
+abbrev pub outsideOf : Size → ℕ → ℕ → Bool
+outsideOf z x y = leb (z .w) x || leb (z .h) y
+
+-- 4: the strengths grid has the wrong length
+abbrev pub badStrengths : Size → ℕ → Bool
+badStrengths z n = not (eqb n (32 * (z .w * z .h)))
+
+-- 5: a 4x4 grid has the wrong length, or just one list 1 grid is empty. n is the number of blocks
+abbrev pub badLengths : ℕ → ℕ → ℕ → ℕ → ℕ → ℕ → ℕ → Bool
+badLengths n inter nnz ref0 mv0 ref1 mv1 =
+    not (eqb inter n)
+    || not (eqb nnz n)
+    || not (eqb ref0 n)
+    || not (eqb mv0 (2 * n))
+    || not ((eqb ref1 0 && eqb mv1 0) || (eqb ref1 n && eqb mv1 (2 * n)))
+
+abbrev pub badBlocks : ℕ → Grids → Bool
+badBlocks n g = badLengths n (length (g .inter)) (length (g .nnz)) (length (g .ref0)) (length (g .mv0)) (length (g .ref1)) (length (g .mv1))
+
+-- 7: an inter byte that is read is not 0 or 1
+abbrev pub badInter : Grids → ℕ → ℕ → ℕ → Bool
+badInter g w x y = someRead w x y (λ i. ltb 1 (getD (g .inter) i 0))
+
+-- 10: a reference number that is read is below -1, in a list that is lent
+abbrev pub belowNone : List ℤ → ℕ → Bool
+belowNone refs i = ltZ (refAt refs i) (negsuc 0)
+
+abbrev pub badRefs : Grids → ℕ → ℕ → ℕ → Bool
+badRefs g w x y = someRead w x y (belowNone (g .ref0)) || someRead w x y (belowNone (g .ref1))
+
+-- 11: the 16 blocks, the 4 to the left or the 4 above disagree on inter
+abbrev pub differs : List ℕ → ℕ → ℕ → Bool
+differs inter i j = not (eqb (getD inter i 0) (getD inter j 0))
+
+unfoldable pub disagree : List ℕ → ℕ → ℕ → ℕ → Bool
+disagree inter w x y =
+    some 4 (λ r. some 4 (λ c. differs inter (own w x y r c) (origin w x y)))
+    || (ltb 0 x && some 4 (λ k. differs inter (left w x y k) (origin w x y - 1)))
+    || (ltb 0 y && some 4 (λ k. differs inter (above w x y k) (origin w x y - 4 * w)))

@@ -1,0 +1,6 @@
+pub mod Blocks
+pub mod Checks
+pub mod Flags
+pub mod Kinds
+pub mod Strength
+pub mod Calls

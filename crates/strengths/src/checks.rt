@@ -1,0 +1,173 @@
+// The checks of a strength call, in the order of their numbers.
+ghost use mathlib.Core.Path.{_≡_};
+ghost use mathlib.Core.List.{[], _∷_};
+ghost use Prim.Native.Nat.{_*_, _<_, _≤_};
+ghost use lib.Dec.{ltb};
+ghost use lib.ListN.{length, getD};
+ghost use Rattle.laws.specs.Refusal.{refusal};
+ghost use Rattle.motion.specs.Grids.{grids};
+ghost use Rattle.strengths.specs.Blocks.{Inside, someRead};
+ghost use Rattle.strengths.specs.Checks.{badSize, outsideOf, badStrengths, badLengths, belowNone, disagree};
+ghost use Rattle.strengths.specs.Calls.{checks};
+use crate::walks::beside_below;
+use crate::walks::beside_differ;
+use crate::walks::beside_over;
+use crate::walks::own_below;
+use crate::walks::own_differ;
+use crate::walks::own_over;
+use edges::Size;
+
+pub fn bad_size(z: Size) -> bool
+    ensures { λ r. ⌜ r ≡ badSize z ⌝ }
+{
+    let w = z.w;
+    let h = z.h;
+    if (w == 0) | (256 < w) | (h == 0) | (256 < h) {
+        return true;
+    }
+    36864 < w * h
+}
+
+fn bad_lengths(
+    n: usize,
+    inter: usize,
+    nnz: usize,
+    ref0: usize,
+    mv0: usize,
+    ref1: usize,
+    mv1: usize,
+) -> bool
+    requires { ⌜ n ≤ 589824 ⌝ }
+    ensures { λ r. ⌜ r ≡ badLengths n inter nnz ref0 mv0 ref1 mv1 ⌝ }
+{
+    (inter != n)
+        | (nnz != n)
+        | (ref0 != n)
+        | (mv0 != 2 * n)
+        | !(((ref1 == 0) & (mv1 == 0)) | ((ref1 == n) & (mv1 == 2 * n)))
+}
+
+// Checks 1, 2, 4 and 5, which read lengths alone.
+pub fn bad_numbers(
+    z: Size,
+    x: usize,
+    y: usize,
+    strengths: usize,
+    inter: usize,
+    nnz: usize,
+    ref0: usize,
+    mv0: usize,
+    ref1: usize,
+    mv1: usize,
+) -> u32
+    ensures { λ r. ⌜ r ≡ refusal ((1, badSize z) ∷ (2, outsideOf z x y) ∷ (4, badStrengths z strengths) ∷ (5, badLengths (16 * (z .w * z .h)) inter nnz ref0 mv0 ref1 mv1) ∷ []) ⌝ }
+{
+    if bad_size(z) {
+        return 1;
+    }
+    let w = z.w;
+    let h = z.h;
+    if (w <= x) | (h <= y) {
+        return 2;
+    }
+    let n = w * h;
+    if strengths != 32 * n {
+        return 4;
+    }
+    if bad_lengths(16 * n, inter, nnz, ref0, mv0, ref1, mv1) {
+        return 5;
+    }
+    0
+}
+
+// Check 7: an inter byte that is read is above 1.
+pub fn bad_inter(inter: &[u8], w: usize, x: usize, y: usize) -> bool
+    requires { ⌜ Inside w x y (length (now inter)) ⌝ }
+    ensures { λ r. ⌜ r ≡ someRead w x y (λ i. ltb 1 (getD (now (inter .entry)) i 0)) ⌝ }
+{
+    let at = 16 * (y * w) + 4 * x;
+    let own = own_over(inter, at, 4 * w, 1);
+    let left = beside_over(0 < x, inter, at, 1, 4 * w, 1);
+    let above = beside_over(0 < y, inter, at, 4 * w, 1, 1);
+    own | left | above
+}
+
+// Check 10 in a list that is lent.
+fn bad_refs(refs: &[i8], w: usize, x: usize, y: usize) -> bool
+    requires { ⌜ Inside w x y (length (now refs)) ⌝ }
+    ensures { λ r. ⌜ r ≡ someRead w x y (belowNone (now (refs .entry))) ⌝ }
+{
+    let at = 16 * (y * w) + 4 * x;
+    let own = own_below(refs, at, 4 * w);
+    let left = beside_below(0 < x, refs, at, 1, 4 * w);
+    let above = beside_below(0 < y, refs, at, 4 * w, 1);
+    own | left | above
+}
+
+// Check 10 in a list that may be empty.
+pub fn bad_list(refs: &[i8], w: usize, x: usize, y: usize) -> bool
+    requires { ⌜ (0 < length (now refs) → Inside w x y (length (now refs))) ⌝ }
+    ensures { λ r. ⌜ r ≡ someRead w x y (belowNone (now (refs .entry))) ⌝ }
+{
+    if 0 < refs.len() {
+        return bad_refs(refs, w, x, y);
+    }
+    false
+}
+
+// Check 11.
+pub fn disagreeing(inter: &[u8], w: usize, x: usize, y: usize) -> bool
+    requires { ⌜ Inside w x y (length (now inter)) ⌝ }
+    ensures { λ r. ⌜ r ≡ disagree (now (inter .entry)) w x y ⌝ }
+{
+    let at = 16 * (y * w) + 4 * x;
+    let own = own_differ(inter, at, 4 * w);
+    let left = beside_differ(0 < x, inter, at, 1, 4 * w);
+    let above = beside_differ(0 < y, inter, at, 4 * w, 1);
+    own | left | above
+}
+
+// Checks 1 to 11. `strengths` is the length of the strengths grid.
+pub fn refuse<'a>(
+    z: Size,
+    x: usize,
+    y: usize,
+    strengths: usize,
+    inter: &[u8],
+    nnz: &[u8],
+    ref_id: &[i8],
+    mv: &'a [i16],
+    ref1: &[i8],
+    mv1: &'a [i16],
+) -> u32
+    ensures { λ r. ⌜ r ≡ refusal (checks z x y (grids (now (inter .entry)) (now (nnz .entry)) (now («ref_id» .entry)) (now (mv .entry)) (now (ref1 .entry)) (now (mv1 .entry))) strengths) ⌝ }
+{
+    let n = bad_numbers(
+        z,
+        x,
+        y,
+        strengths,
+        inter.len(),
+        nnz.len(),
+        ref_id.len(),
+        mv.len(),
+        ref1.len(),
+        mv1.len(),
+    );
+    if n != 0 {
+        return n;
+    }
+    let w = z.w;
+    if bad_inter(inter, w, x, y) {
+        return 7;
+    }
+    let bad0 = bad_list(ref_id, w, x, y);
+    let bad1 = bad_list(ref1, w, x, y);
+    if bad0 | bad1 {
+        return 10;
+    }
+    if disagreeing(inter, w, x, y) {
+        return 11;
+    }
+    0
+}

@@ -1,0 +1,182 @@
+// The 32 strengths of a macroblock whose grids have been checked.
+ghost use mathlib.Core.Path.{_≡_};
+ghost use mathlib.Core.Bool.{true, cond, _&&_, _||_};
+ghost use Prim.Native.Nat.{_+_, _*_, _/_, _%_, _<_, _≤_};
+ghost use lib.Dec.{eqb, ltb};
+ghost use lib.ListN.{length};
+ghost use Rattle.laws.specs.Some.{every};
+ghost use Rattle.motion.specs.Grids.{grids, Hold, blkAt};
+ghost use Rattle.motion.specs.Motion.{sameMotion};
+ghost use Rattle.strengths.specs.Blocks.{own, Inside};
+ghost use Rattle.strengths.specs.Strength.{border, skipped, qBlock, between, written};
+ghost use Rattle.strengths.specs.Kinds.{inside, acrossBy, strengthBy};
+use crate::kinds::MbKind;
+use motion::blocks::Blk;
+use motion::blocks::bs_inter;
+use motion::blocks::same_motion;
+use motion::grids::load;
+
+// ---- the own blocks have one motion: four of a row, then four rows
+
+fn row_same<'a>(
+    first: Blk,
+    inter: &[u8],
+    nnz: &[u8],
+    ref_id: &[i8],
+    mv: &'a [i16],
+    ref1: &[i8],
+    mv1: &'a [i16],
+    at: usize,
+) -> bool
+    requires { ⌜ Hold (grids (now inter) (now nnz) (now «ref_id») (now mv) (now ref1) (now mv1)) (at + 4) ⌝ }
+    ensures { λ r. ⌜ r ≡ every 4 (λ k. sameMotion (blkAt (grids (now (inter .entry)) (now (nnz .entry)) (now («ref_id» .entry)) (now (mv .entry)) (now (ref1 .entry)) (now (mv1 .entry))) (at + k)) first) ⌝ }
+{
+    let mut same = true;
+    for k in 0..4usize {
+        let b = load(inter, nnz, ref_id, mv, ref1, mv1, at + k);
+        same = same & same_motion(b, first);
+    }
+    same
+}
+
+pub fn own_same<'a>(
+    inter: &[u8],
+    nnz: &[u8],
+    ref_id: &[i8],
+    mv: &'a [i16],
+    ref1: &[i8],
+    mv1: &'a [i16],
+    at: usize,
+    stride: usize,
+) -> bool
+    requires { ⌜ Hold (grids (now inter) (now nnz) (now «ref_id») (now mv) (now ref1) (now mv1)) (at + 3 * stride + 4) ⌝ }
+    ensures { λ r. ⌜ r ≡ every 4 (λ j. every 4 (λ k. sameMotion (blkAt (grids (now (inter .entry)) (now (nnz .entry)) (now («ref_id» .entry)) (now (mv .entry)) (now (ref1 .entry)) (now (mv1 .entry))) (at + j * stride + k)) (blkAt (grids (now (inter .entry)) (now (nnz .entry)) (now («ref_id» .entry)) (now (mv .entry)) (now (ref1 .entry)) (now (mv1 .entry))) at))) ⌝ }
+{
+    let first = load(inter, nnz, ref_id, mv, ref1, mv1, at);
+    let mut same = true;
+    for j in 0..4usize {
+        same = same & row_same(first, inter, nnz, ref_id, mv, ref1, mv1, at + j * stride);
+    }
+    same
+}
+
+// ---- one strength
+
+// By the direction of byte k's edge: a where it is vertical, else b.
+fn by_way(k: usize, a: usize, b: usize) -> usize
+    ensures { λ r. ⌜ r ≡ cond (ltb k 16) a b ⌝ }
+{
+    if k < 16 { a } else { b }
+}
+
+// The picture ends at byte k's edge, or the transform has no edge there.
+fn idle(t8: bool, x: usize, y: usize, k: usize) -> bool
+    ensures { λ r. ⌜ r ≡ (border x y k || skipped t8 k) ⌝ }
+{
+    let e = k / 4 % 4;
+    ((e == 0) & (by_way(k, x, y) == 0)) | (t8 & (e % 2 == 1))
+}
+
+fn outer(p: Blk, q: Blk) -> u8
+    ensures { λ r. ⌜ r ≡ between true p q ⌝ }
+{
+    if p.inter & q.inter {
+        return bs_inter(3, p, q);
+    }
+    4
+}
+
+fn coefficients(p: Blk, q: Blk) -> u8
+    ensures { λ r. ⌜ r ≡ cond (p .nz || q .nz) 2 0 ⌝ }
+{
+    if p.nz | q.nz { 2 } else { 0 }
+}
+
+fn inner(kind: MbKind, p: Blk, q: Blk) -> u8
+    ensures { λ r. ⌜ r ≡ inside kind p q ⌝ }
+{
+    match kind {
+        MbKind::Intra => 3,
+        MbKind::Skip => 0,
+        MbKind::InterUniform => coefficients(p, q),
+        MbKind::Inter => bs_inter(3, p, q),
+    }
+}
+
+fn across(kind: MbKind, first: bool, p: Blk, q: Blk) -> u8
+    ensures { λ r. ⌜ r ≡ acrossBy kind first p q ⌝ }
+{
+    if first {
+        return outer(p, q);
+    }
+    inner(kind, p, q)
+}
+
+fn q_block(at: usize, w: usize, k: usize) -> usize
+    requires { ⌜ at + 12 * w + 3 < 1000000 ⌝ }
+    requires { ⌜ k < 32 ⌝ }
+    ensures is { λ r. ⌜ r ≡ at + cond (ltb k 16) (k % 4) (k / 4 % 4) * (4 * w) + cond (ltb k 16) (k / 4 % 4) (k % 4) ⌝ }
+    ensures most { λ r. ⌜ r ≤ at + 12 * w + 3 ⌝ }
+{
+    let e = k / 4 % 4;
+    let s = k % 4;
+    at + by_way(k, s, e) * (4 * w) + by_way(k, e, s)
+}
+
+// Strength byte k.
+fn strength_at<'a>(
+    kind: MbKind,
+    t8: bool,
+    w: usize,
+    x: usize,
+    y: usize,
+    inter: &[u8],
+    nnz: &[u8],
+    ref_id: &[i8],
+    mv: &'a [i16],
+    ref1: &[i8],
+    mv1: &'a [i16],
+    k: usize,
+) -> u8
+    requires { ⌜ Hold (grids (now inter) (now nnz) (now «ref_id») (now mv) (now ref1) (now mv1)) (own w x y 3 3 + 1) ⌝ }
+    requires { ⌜ Inside w x y 589824 ⌝ }
+    requires { ⌜ k < 32 ⌝ }
+    ensures { λ r. ⌜ r ≡ strengthBy kind (grids (now (inter .entry)) (now (nnz .entry)) (now («ref_id» .entry)) (now (mv .entry)) (now (ref1 .entry)) (now (mv1 .entry))) w t8 x y k ⌝ }
+{
+    if idle(t8, x, y, k) {
+        return 0;
+    }
+    let at = 16 * (y * w) + 4 * x;
+    let q = q_block(at, w, k);
+    let back = by_way(k, 1, 4 * w);
+    let b = load(inter, nnz, ref_id, mv, ref1, mv1, q);
+    let a = load(inter, nnz, ref_id, mv, ref1, mv1, q - back);
+    across(kind, k / 4 % 4 == 0, a, b)
+}
+
+// All 32 bytes of macroblock (x, y).
+pub fn derive<'a>(
+    kind: MbKind,
+    t8: bool,
+    w: usize,
+    x: usize,
+    y: usize,
+    inter: &[u8],
+    nnz: &[u8],
+    ref_id: &[i8],
+    mv: &'a [i16],
+    ref1: &[i8],
+    mv1: &'a [i16],
+    strengths: &mut [u8],
+)
+    requires { ⌜ Hold (grids (now inter) (now nnz) (now «ref_id») (now mv) (now ref1) (now mv1)) (own w x y 3 3 + 1) ⌝ }
+    requires { ⌜ Inside w x y 589824 ⌝ }
+    requires { ⌜ 32 * (y * w + x) + 32 ≤ length (now strengths) ⌝ }
+    ensures { λ _. ⌜ now (strengths .exit) ≡ written (y * w + x) (strengthBy kind (grids (now (inter .entry)) (now (nnz .entry)) (now («ref_id» .entry)) (now (mv .entry)) (now (ref1 .entry)) (now (mv1 .entry))) w t8 x y) (now (strengths .entry)) ⌝ }
+{
+    let i = 32 * (y * w + x);
+    for k in 0..32usize {
+        let s = strength_at(kind, t8, w, x, y, inter, nnz, ref_id, mv, ref1, mv1, k);
+        strengths[i + k] = s;
+    }
+}

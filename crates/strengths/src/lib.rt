@@ -1,0 +1,6 @@
+// Strengths of a macroblock from the 4x4 grids (ITU-T H.264, clause 8.7.2.1), with numbered refusals.
+pub mod calls;
+pub mod checks;
+pub mod derive;
+pub mod kinds;
+pub mod walks;

@@ -1,0 +1,86 @@
+-- Calls that each keep the contract of a visit come to `run` and `answers`, so demand 3 holds of them; and the laws of a loop that makes them:
+-- its start, a turn, its end. Assumes nothing.
+use mathlib.Core.Path.{_≡_, refl, sym, ap, _∙_}
+use mathlib.Core.List.{List, [], _∷_, _++_, append-nil, zip, zipWith}
+use Prim.Native.Nat.{ℕ, zero, suc, _+_, _≤_, _<_}
+use native.Mathlib.Nat.{suc-inj, suc-ne-zero}
+use native.Mathlib.Numerals.{add-one}
+use native.Mathlib.Omega.{arith}
+use lib.ListN.{length, getD, set, take, drop, drop-of-length-le}
+use lib.Seq.{drop-cons, take-suc-set, append-snoc, take-all}
+use Rattle.visits.specs.Visit.{At, State, Call, fresh, visit, Outcome, run, answers}
+use Rattle.visits.specs.AnyOrder.{AsksPlace, Commutes, AnyOrder}
+use Rattle.visits.specs.Calls.{requests, Calls, none, more, Served}
+use Rattle.visits.proofs.Outcome.{outcome-is-visit}
+use Rattle.visits.proofs.AnyOrder.{any-order}
+
+-- ---- requests by their columns and rows
+pub requests-length : (xs ys : List ℕ) → length xs ≡ length ys → length (requests xs ys) ≡ length xs
+unfolding zip zipWith
+requests-length [] ys e = refl
+requests-length (x ∷ xs) [] e = absurd (suc-ne-zero (length xs) e)
+requests-length (x ∷ xs) (y ∷ ys) e = ap suc (requests-length xs ys (suc-inj e))
+
+pub request-at : (xs ys : List ℕ) (k : ℕ) → length xs ≡ length ys → getD (requests xs ys) k (0, 0) ≡ (getD xs k 0, getD ys k 0)
+unfolding zip zipWith
+request-at [] [] k e = refl
+request-at [] (y ∷ ys) k e = absurd (suc-ne-zero (length ys) (sym e))
+request-at (x ∷ xs) [] k e = absurd (suc-ne-zero (length xs) e)
+request-at (x ∷ xs) (y ∷ ys) zero e = refl
+request-at (x ∷ xs) (y ∷ ys) (suc k) e = request-at xs ys k (suc-inj e)
+
+module _ {W : ℕ} {S : Type 0} {step : ℕ → S → S} {early : State S → At → ℕ} where
+  pub calls-run : {s u : State S} {rs : List At} {ns : List ℕ} → Calls W step early s rs ns u
+      → (u ≡ run (visit W step early) rs s) × (ns ≡ answers (visit W step early) rs s)
+  calls-run none = (refl, refl)
+  calls-run (more {rs = rs} o c) =
+      let k = calls-run c in
+      let e = outcome-is-visit o in
+      (k .0 ∙ ap (run (visit W step early) rs) (e .1), λ i. e .0 i ∷ (k .1 ∙ ap (answers (visit W step early) rs) (e .1)) i)
+
+  -- ---- a loop over requests: a turn
+  pub served-more : {rs : List At} {start : State S} {k : ℕ} {s t : State S} {out : List ℕ} {n : ℕ} → k < length rs → length out ≡ length rs
+      → Served (visit W step early) rs start k s out → Outcome W step early s (getD rs k (0, 0)) n t
+      → Served (visit W step early) rs start (k + 1) t (set out k n)
+  served-more {rs} {start} {k} {s} {t} {out} {n} h l v o = rw add-one (record { state = ran ∙ v .state; said = spoke ∙ v .said })
+    where
+      r : At
+      r = getD rs k (0, 0)
+
+      e : (n ≡ visit W step early s r .0) × (t ≡ visit W step early s r .1)
+      e = outcome-is-visit o
+
+      cut : drop k rs ≡ r ∷ drop (suc k) rs
+      cut = drop-cons rs k (0, 0) h
+
+      ran : run (visit W step early) (drop (suc k) rs) t ≡ run (visit W step early) (drop k rs) s
+      ran = rw (cut, e .1)
+
+      spoke : take (suc k) (set out k n) ++ answers (visit W step early) (drop (suc k) rs) t ≡ take k out ++ answers (visit W step early) (drop k rs) s
+      spoke = rw (take-suc-set out k n (omega arith), append-snoc, cut, e .0, e .1)
+
+  -- .. over a list of columns and a list of rows
+  pub served-turn : (xs ys : List ℕ) {start : State S} {k : ℕ} {s t : State S} {out : List ℕ} {n : ℕ} → k < length xs → length xs ≡ length ys
+      → length out ≡ length xs → Served (visit W step early) (requests xs ys) start k s out → Outcome W step early s (getD xs k 0, getD ys k 0) n t
+      → Served (visit W step early) (requests xs ys) start (k + 1) t (set out k n)
+  served-turn xs ys {k = k} h e l v o =
+      let len = requests-length xs ys e in
+      served-more (omega arith) (omega arith) v (rw (request-at xs ys k e) o)
+
+-- its start and its end, with any call
+pub served-none : {S : Type 0} {call : Call S} {rs : List At} {s : State S} {out : List ℕ} → Served call rs s 0 s out
+served-none = record { state = refl; said = refl }
+
+pub served-all : {S : Type 0} {call : Call S} {rs : List At} {start : State S} {k : ℕ} {s : State S} {out : List ℕ}
+    → length rs ≤ k → length out ≡ length rs → Served call rs start k s out → (s ≡ run call rs start) × (out ≡ answers call rs start)
+served-all {rs = rs} {k = k} {out = out} h l v = (rw e at (v .state), rw (e, append-nil, take-all k out (omega arith)) at (v .said))
+  where
+    e : drop k rs ≡ []
+    e = drop-of-length-le rs {i = k} h
+
+-- ---- demand 3 over the contracts alone
+pub calls-any-order : (W H : ℕ) {S : Type 0} (step : ℕ → S → S) (early : State S → At → ℕ) → AsksPlace W H early → Commutes W step
+    → {start : S} {rs : List At} {ns : List ℕ} {now : State S} → Calls W step early (start, fresh W H) rs ns now
+    → AnyOrder W H step early (visit W step early) start now
+calls-any-order W H step early inside swap {start = start} {rs = rs} c =
+    rw (calls-run c .0) (any-order W H step early inside swap start rs)

@@ -2,5 +2,6 @@ pub mod Agreed
 pub mod Beside
 pub mod ByKind
 pub mod Outcomes
+pub mod Over
 pub mod Passed
 pub mod Sized

@@ -1,5 +1,5 @@
 -- Laws of a chain of checks: it may be cut in two, and what the answer 0 tells. Assumes nothing.
-use mathlib.Core.Path.{_≡_, refl}
+use mathlib.Core.Path.{_≡_, refl, sym, _∙_}
 use mathlib.Core.Bool.{Bool, true, false, cond}
 use mathlib.Core.List.{List, [], _∷_, _++_}
 use Prim.Native.Nat.{ℕ}
@@ -56,3 +56,10 @@ refusal-right (c ∷ cs) ds h e = go (c .1) (refusal-right cs ds (h .1)) e
 -- a numeral is not 0
 pub nonzero : (n : ℕ) → T (ltb 0 n) → n ≡ 0 → ⊥
 nonzero n t e = omega (arith, ltb→lt 0 n t)
+
+-- a chain check by check: this one does not apply, this one does
+pub skip : (n : ℕ) {m k : ℕ} {b : Bool} → b ≡ false → m ≡ k → m ≡ cond b n k
+skip n {m} {k} e f = f ∙ sym (λ i. cond (e i) n k)
+
+pub stop : (n k : ℕ) {b : Bool} → b ≡ true → n ≡ cond b n k
+stop n k e = sym (λ i. cond (e i) n k)

@@ -2,6 +2,5 @@ pub mod Agreed
 pub mod Beside
 pub mod ByKind
 pub mod Outcomes
-pub mod Over
 pub mod Passed
 pub mod Sized

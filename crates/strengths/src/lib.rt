@@ -2,6 +2,5 @@
 pub mod calls;
 pub mod checks;
 pub mod derive;
-pub mod filtering;
 pub mod kinds;
 pub mod walks;

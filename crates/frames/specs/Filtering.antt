@@ -50,25 +50,33 @@ badRange z a b = ltb b a || ltb (z .h) b
 abbrev pub qpsFrom : ℕ → ℕ → ℕ → ℕ
 qpsFrom w a b = cond (ltb 0 a && ltb a b) (a * w - w) (a * w)
 
-abbrev pub rowNumbers : Size → ℕ → ℕ → Offsets → Planes → Lent → List (ℕ × Bool)
-rowNumbers z a b o p l =
+abbrev pub rowNumbers : Size → ℕ → ℕ → Offsets → ℕ → ℕ → ℕ → ℕ → ℕ → ℕ → List (ℕ × Bool)
+rowNumbers z a b o y u v strengths qps t8s =
     (1, badSize z)
     ∷ (2, badRange z a b)
-    ∷ (3, badPlanes (z .w * z .h) (length (p .y)) (length (p .u)) (length (p .v)))
-    ∷ (4, badLent (z .w * z .h) (length (l .strengths)) (length (l .qps)) (length (l .t8s)))
+    ∷ (3, badPlanes (z .w * z .h) y u v)
+    ∷ (4, badLent (z .w * z .h) strengths qps t8s)
     ∷ (6, badOffsets o)
     ∷ []
 
--- an empty grid of flags holds no bad one
-abbrev pub rowValues : Size → ℕ → ℕ → Lent → List (ℕ × Bool)
-rowValues z a b l =
-    (7, not (eqb (length (l .t8s)) 0) && over 1 (a * z .w) (b * z .w) (l .t8s))
-    ∷ (8, over 51 (qpsFrom (z .w) a b) (b * z .w) (l .qps))
-    ∷ (9, over 4 (32 * (a * z .w)) (32 * (b * z .w)) (l .strengths))
+-- 7: an empty grid of flags holds no bad one
+abbrev pub badFlags : ℕ → ℕ → List ℕ → Bool
+badFlags a b t8s = not (eqb (length t8s) 0) && over 1 a b t8s
+
+abbrev pub rowValues : ℕ → ℕ → ℕ → Lent → List (ℕ × Bool)
+rowValues w a b l =
+    (7, badFlags (a * w) (b * w) (l .t8s))
+    ∷ (8, over 51 (qpsFrom w a b) (b * w) (l .qps))
+    ∷ (9, over 4 (32 * (a * w)) (32 * (b * w)) (l .strengths))
     ∷ []
 
+abbrev pub rowChecks : Size → ℕ → ℕ → Offsets → Planes → Lent → List (ℕ × Bool)
+rowChecks z a b o p l =
+    rowNumbers z a b o (length (p .y)) (length (p .u)) (length (p .v)) (length (l .strengths)) (length (l .qps)) (length (l .t8s))
+    ++ rowValues (z .w) a b l
+
 unfoldable pub rowAnswer : Size → ℕ → ℕ → Offsets → Planes → Lent → ℕ
-rowAnswer z a b o p l = refusal (rowNumbers z a b o p l ++ rowValues z a b l)
+rowAnswer z a b o p l = refusal (rowChecks z a b o p l)
 
 -- an outcome: the answer n, and the planes before and after. A refusal leaves them as they were; the rest is only read
 pub record RowOutcome (z : Size) (a b : ℕ) (o : Offsets) (l : Lent) (p : Planes) (n : ℕ) (p′ : Planes) : Type 0 where

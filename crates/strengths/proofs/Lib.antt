@@ -2,5 +2,8 @@ pub mod Agreed
 pub mod Beside
 pub mod ByKind
 pub mod Outcomes
+pub mod Over
 pub mod Passed
+pub mod Ranges
+pub mod Frames
 pub mod Sized

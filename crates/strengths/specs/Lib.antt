@@ -1,5 +1,6 @@
 pub mod Blocks
 pub mod Checks
+pub mod Filtering
 pub mod Flags
 pub mod Kinds
 pub mod Strength

@@ -5,10 +5,10 @@ use mathlib.Core.Bool.{false}
 use Prim.Native.Nat.{ℕ, _*_}
 use native.Mathlib.Omega.{arith}
 use Rattle.laws.proofs.Refusal.{skip, stop}
-use Rattle.frames.specs.Filtering.{over, badFlags, qpsFrom}
-use Rattle.frames.proofs.Ranges.{first-le, from-le}
-use Rattle.frames.proofs.rows.bad_values.Statement.{statement}
-use Rattle.frames.proofs.rows.bad_values.Tie as tie
+use Rattle.strengths.specs.Filtering.{over, badFlags, qpsFrom}
+use Rattle.strengths.proofs.Ranges.{first-le, from-le}
+use Rattle.strengths.proofs.rows.bad_values.Statement.{statement}
+use Rattle.strengths.proofs.rows.bad_values.Tie as tie
 
 flags : tie.Need-bad-flags-requires
 flags c κs = let s = c .before .before .before in let a = s .args in (first-le (a .w) (a .a) (a .b) (s .pre .0 .0), s .pre .1 .1 .1)

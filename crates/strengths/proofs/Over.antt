@@ -9,7 +9,7 @@ use borrow.Author.Needs.{needs}
 use lib.Dec.{ltb}
 use lib.ListN.{getD}
 use Rattle.laws.proofs.Some.{some-none, some-more}
-use Rattle.frames.specs.Filtering.{over}
+use Rattle.strengths.specs.Filtering.{over}
 
 pub over-none : (top a : ℕ) (xs : List ℕ) → false ≡ over top a a xs
 unfolding over

@@ -14,8 +14,8 @@ use Rattle.laws.proofs.Refusal.{Numbered, nonzero, passed, refusal-cut}
 use Rattle.edges.specs.Picture.{Planes, Room, held, rowsOf}
 use Rattle.edges.specs.declared.Offsets.{Offsets}
 use Rattle.edges.specs.declared.Size.{Size}
 use Rattle.strengths.proofs.Sized.{or-false, Sized, sized}
-use Rattle.frames.specs.Filtering.{Lent, rowNumbers, rowValues, rowAnswer, RowOutcome}
+use Rattle.strengths.specs.Filtering.{Lent, rowNumbers, rowValues, rowAnswer, RowOutcome}
 
 equal : (a b : ℕ) → not (eqb a b) ≡ false → a ≡ b
 equal a b e = eqb-true a b (not-false (eqb a b) e)

@@ -1,10 +1,10 @@
 -- `any_over`: one entry a turn. Assumes nothing.
 use mathlib.Core.Path.{_≡_}
 use Prim.Native.Nat.{_-_, _≤_}
-use Rattle.frames.specs.Filtering.{over}
-use Rattle.frames.proofs.Over.{overs}
-use Rattle.frames.proofs.checks.any_over.Statement.{statement}
-use Rattle.frames.proofs.checks.any_over.Tie as tie
+use Rattle.strengths.specs.Filtering.{over}
+use Rattle.strengths.proofs.Over.{overs}
+use Rattle.strengths.proofs.filtering.any_over.Statement.{statement}
+use Rattle.strengths.proofs.filtering.any_over.Tie as tie
 
 abbrev Inv : tie.InvT-loop
 Inv s a b top found₀ i₀ found i = (a ≤ i) × (i ≤ b) × (found ≡ over top a i s)

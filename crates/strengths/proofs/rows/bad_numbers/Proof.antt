@@ -5,11 +5,11 @@ use mathlib.Core.Bool.{false, cond}
 use Prim.Native.Nat.{ℕ, _*_}
 use native.Mathlib.Omega.{arith}
 use Rattle.laws.proofs.Refusal.{skip, stop}
 use Rattle.strengths.specs.Checks.{badSize}
 use Rattle.strengths.proofs.Sized.{Sized, sized}
-use Rattle.frames.specs.Filtering.{badRange, badPlanes, badLent}
-use Rattle.frames.proofs.rows.bad_numbers.Statement.{statement}
-use Rattle.frames.proofs.rows.bad_numbers.Tie as tie
+use Rattle.strengths.specs.Filtering.{badRange, badPlanes, badLent}
+use Rattle.strengths.proofs.rows.bad_numbers.Statement.{statement}
+use Rattle.strengths.proofs.rows.bad_numbers.Tie as tie
 
 ok : (c : tie.Else1) → badSize (c .before .before .args .z) ≡ false
 ok c = sym (c .before .bad-size .ensures) ∙ c .if1 .left

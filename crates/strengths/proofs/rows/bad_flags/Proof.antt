@@ -1,7 +1,7 @@
 -- `bad_flags`: an empty grid holds no flag; else its entries are looked at. Assumes nothing.
 use borrow.Author.Tests.{eq-eqb, ne-eqb}
-use Rattle.frames.proofs.rows.bad_flags.Statement.{statement}
-use Rattle.frames.proofs.rows.bad_flags.Tie as tie
+use Rattle.strengths.proofs.rows.bad_flags.Statement.{statement}
+use Rattle.strengths.proofs.rows.bad_flags.Tie as tie
 
 pub bad-flags-spec : {M : Type 1} → statement M
 bad-flags-spec =

@@ -6,8 +6,8 @@ use mathlib.Core.Bool.{Bool, true, false, _&&_}
 use native.Mathlib.Omega.{arith}
 use lib.Dec.{ltb}
 use Rattle.laws.proofs.Grid.{row-pos}
-use Rattle.frames.proofs.rows.qps_from.Statement.{statement}
-use Rattle.frames.proofs.rows.qps_from.Tie as tie
+use Rattle.strengths.proofs.rows.qps_from.Statement.{statement}
+use Rattle.strengths.proofs.rows.qps_from.Tie as tie
 
 left : (s t : Bool) → (s && t) ≡ true → s ≡ true
 left true t e = refl

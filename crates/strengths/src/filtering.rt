@@ -2,7 +2,7 @@
 ghost use mathlib.Core.Path.{_≡_};
 ghost use Prim.Native.Nat.{_*_, _≤_};
 ghost use lib.ListN.{length};
-ghost use Rattle.frames.specs.Filtering.{badPlanes, badLent, badOffsets, over};
+ghost use Rattle.strengths.specs.Filtering.{badPlanes, badLent, badOffsets, over};
 use edges::Offsets;
 
 // Check 3: lengths of planes, for n macroblocks.

@@ -4,10 +4,10 @@ use mathlib.Core.Path.{_≡_, sym, _∙_}
 use native.Mathlib.Omega.{arith}
 use lib.ListN.{length}
 use Rattle.edges.specs.Picture.{Planes, planes}
-use Rattle.frames.specs.Filtering.{Lent, lent}
-use Rattle.frames.proofs.Outcomes.{Good, good, room, ends, first, second, refused-first, refused-second, done}
-use Rattle.frames.proofs.rows.filter_frame_rows.Statement.{statement}
-use Rattle.frames.proofs.rows.filter_frame_rows.Tie as tie
+use Rattle.strengths.specs.Filtering.{Lent, lent}
+use Rattle.strengths.proofs.Frames.{Good, good, room, ends, first, second, refused-first, refused-second, done}
+use Rattle.strengths.proofs.rows.filter_frame_rows.Statement.{statement}
+use Rattle.strengths.proofs.rows.filter_frame_rows.Tie as tie
 
 abbrev held-by : tie.Start → Lent
 held-by s = let a = s .args in lent (a .strengths .now) (a .qps .now) (a .t8s .now)

@@ -6,16 +6,16 @@ ghost use lib.Dec.{eqb};
 ghost use lib.ListN.{length};
 ghost use Rattle.laws.specs.Refusal.{refusal};
 ghost use Rattle.edges.specs.Picture.{planes};
-ghost use Rattle.frames.specs.Filtering.{lent, badRange, badFlags, qpsFrom, rowNumbers, rowValues, RowOutcome, FrameOutcome};
-use crate::checks::any_over;
-use crate::checks::bad_lent;
-use crate::checks::bad_offsets;
-use crate::checks::bad_planes;
+ghost use Rattle.strengths.specs.Filtering.{lent, badRange, badFlags, qpsFrom, rowNumbers, rowValues, RowOutcome, FrameOutcome};
+use crate::filtering::any_over;
+use crate::filtering::bad_lent;
+use crate::filtering::bad_offsets;
+use crate::filtering::bad_planes;
 use edges::Offsets;
 use edges::Size;
 use edges::picture::rows;
 use lines::tables::all;
-use strengths::checks::bad_size;
+use crate::checks::bad_size;
 
 // Checks 1 to 6, which read lengths alone.
 fn bad_numbers(

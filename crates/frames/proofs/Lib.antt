@@ -1,3 +1,0 @@
-pub mod Over
-pub mod Ranges
-pub mod Outcomes

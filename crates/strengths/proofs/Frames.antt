@@ -10,7 +10,7 @@ use borrow.Author.Tests.{ltb-false, eqb-true, ne-eqb, eq-eqb, not-false}
 use lib.Dec.{eqb, ltb}
 use lib.ListN.{length}
 use Rattle.laws.specs.Refusal.{refusal}
-use Rattle.laws.proofs.Refusal.{Numbered, nonzero, passed, refusal-cut}
+use Rattle.laws.proofs.Refusal.{Numbered, nonzero, passed, refusal-cut, refusal-left}
 use Rattle.edges.specs.Picture.{Planes, Room, held, rowsOf}
 use Rattle.edges.specs.declared.Offsets.{Offsets}
 use Rattle.edges.specs.declared.Size.{Size}
@@ -72,15 +72,24 @@ module _ (z : Size) (a b y u v strengths qps t8s : ℕ) (g : Good z a b y u v st
   ends = let k = mul-le-mul-right (z .w) (g .line) in omega (arith, mul-comm (z .w) (z .h))
 
 module _ (z : Size) (a b : ℕ) (o : Offsets) (l : Lent) (p : Planes) where
+  abbrev pub lengthChecks : List (ℕ × Bool)
+  lengthChecks = rowNumbers z a b o (length (p .y)) (length (p .u)) (length (p .v)) (length (l .strengths)) (length (l .qps)) (length (l .t8s))
+
+  pub numbered : Numbered lengthChecks
+  numbered = five z a b o (length (p .y)) (length (p .u)) (length (p .v)) (length (l .strengths)) (length (l .qps)) (length (l .t8s))
+
   abbrev pub first : ℕ
-  first = refusal (rowNumbers z a b o (length (p .y)) (length (p .u)) (length (p .v)) (length (l .strengths)) (length (l .qps)) (length (l .t8s)))
+  first = refusal lengthChecks
 
   abbrev pub second : ℕ
   second = refusal (rowValues (z .w) a b l)
 
+  pub good-rows : first ≡ 0 → Good z a b (length (p .y)) (length (p .u)) (length (p .v)) (length (l .strengths)) (length (l .qps)) (length (l .t8s))
+  good-rows e = good z a b o (length (p .y)) (length (p .u)) (length (p .v)) (length (l .strengths)) (length (l .qps)) (length (l .t8s)) e
+
   cut : rowAnswer z a b o p l ≡ cond (eqb first 0) second first
   unfolding rowAnswer
-  cut = refusal-cut (rowNumbers z a b o (length (p .y)) (length (p .u)) (length (p .v)) (length (l .strengths)) (length (l .qps)) (length (l .t8s))) (rowValues (z .w) a b l) (five z a b o (length (p .y)) (length (p .u)) (length (p .v)) (length (l .strengths)) (length (l .qps)) (length (l .t8s)))
+  cut = refusal-cut lengthChecks (rowValues (z .w) a b l) numbered
 
   pub refused-first : (n : ℕ) → n ≡ first → (n ≡ 0 → ⊥) → RowOutcome z a b o l p n p
   refused-first n e h = record {
@@ -88,8 +97,16 @@ module _ (z : Size) (a b : ℕ) (o : Offsets) (l : Lent) (p : Planes) where
     leaves = rw (ne-eqb n 0 h);
   }
 
-  then : first ≡ 0 → rowAnswer z a b o p l ≡ second
+  pub then : first ≡ 0 → rowAnswer z a b o p l ≡ second
   then e = cut ∙ ap (λ (k : ℕ). cond (eqb k 0) second k) e
+
+  -- the answer 0: no check applies
+  pub firsts : rowAnswer z a b o p l ≡ 0 → first ≡ 0
+  unfolding rowAnswer
+  firsts e = refusal-left lengthChecks (rowValues (z .w) a b l) numbered e
+
+  pub seconds : rowAnswer z a b o p l ≡ 0 → second ≡ 0
+  seconds e = sym (then (firsts e)) ∙ e
 
   pub refused-second : (n : ℕ) → first ≡ 0 → n ≡ second → (n ≡ 0 → ⊥) → RowOutcome z a b o l p n p
   refused-second n e f h = record { says = f ∙ sym (then e); leaves = rw (ne-eqb n 0 h) }

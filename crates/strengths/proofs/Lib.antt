@@ -1,9 +1,13 @@
 pub mod Agreed
 pub mod Beside
 pub mod ByKind
+pub mod Frames
+pub mod Inclusion
+pub mod Joined
 pub mod Outcomes
 pub mod Over
 pub mod Passed
 pub mod Ranges
-pub mod Frames
 pub mod Sized
+pub mod Whole
+pub mod Written

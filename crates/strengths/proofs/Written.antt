@@ -1,0 +1,72 @@
+-- What a strength call writes: 32 bytes that read back, none of them above 4, and no other. Assumes nothing.
+use mathlib.Core.Path.{_≡_, refl, sym, ap, _∙_}
+use mathlib.Core.Bool.{Bool, cond, _&&_, _||_}
+use mathlib.Core.List.{List}
+use mathlib.Core.Logic.{_⊎_, inl, inr, ⊎-elim}
+use Prim.Native.Nat.{ℕ, zero, suc, _+_, _*_, _≤_, _<_}
+use native.Mathlib.Nat.{not-suc-le-zero, eq-or-lt-of-le, le-of-suc-le-suc, le-trans}
+use native.Mathlib.Omega.{arith}
+use lib.Dec.{eqb, lit≤}
+use lib.ListN.{length, getD, set, length-set}
+use lib.Seq.{getD-set-same, getD-set-other}
+use Rattle.laws.specs.Loop.{upTo}
+use Rattle.laws.proofs.Cond.{cond-both}
+use Rattle.laws.proofs.Loop.{upTo-keeps}
+use Rattle.motion.specs.Grids.{Grids, blkAt}
+use Rattle.motion.specs.declared.blocks.Blk.{Blk}
+use Rattle.motion.proofs.Laws.{strength-le}
+use Rattle.strengths.specs.Strength.{edge, qBlock, pBlock, border, skipped, between, strengthAt, written}
+
+-- ---- n values from `first` on
+abbrev filled : ℕ → ℕ → (ℕ → ℕ) → List ℕ → List ℕ
+filled n first f s = upTo n (λ k t. set t (first + k) (f k)) s
+
+filled-length : (n first : ℕ) (f : ℕ → ℕ) (s : List ℕ) → length (filled n first f s) ≡ length s
+filled-length n first f s = upTo-keeps (λ (t : List ℕ). length t ≡ length s) n _ s (λ k t l e. length-set t (first + k) (f k) ∙ e) refl
+
+filled-beside : (n first : ℕ) (f : ℕ → ℕ) (s : List ℕ) (j : ℕ) → ((k : ℕ) → k < n → j ≡ first + k → ⊥) → getD (filled n first f s) j 0 ≡ getD s j 0
+filled-beside n first f s j h =
+    upTo-keeps (λ (t : List ℕ). getD t j 0 ≡ getD s j 0) n _ s (λ k t l e. getD-set-other t (first + k) j (f k) 0 (h k l) ∙ e) refl
+
+filled-at : (n first : ℕ) (f : ℕ → ℕ) (s : List ℕ) (k : ℕ) → first + n ≤ length s → k < n → getD (filled n first f s) (first + k) 0 ≡ f k
+unfolding upTo
+filled-at zero first f s k h l = absurd (not-suc-le-zero l)
+filled-at (suc n) first f s k h l = ⊎-elim last (λ b. before b (filled-at n first f s k (omega arith) b)) (eq-or-lt-of-le (le-of-suc-le-suc l))
+  where
+    t : List ℕ
+    t = upTo n (λ k t. set t (first + k) (f k)) s
+
+    last : k ≡ n → getD (set t (first + n) (f n)) (first + k) 0 ≡ f k
+    last e =
+        ap (λ (i : ℕ). getD (set t (first + n) (f n)) (first + i) 0) e
+        ∙ getD-set-same t (first + n) (f n) 0 (omega (arith, filled-length n first f s))
+        ∙ ap f (sym e)
+
+    before : k < n → getD t (first + k) 0 ≡ f k → getD (set t (first + n) (f n)) (first + k) 0 ≡ f k
+    before b e = getD-set-other t (first + n) (first + k) (f n) 0 (λ q. omega arith) ∙ e
+
+-- ---- the 32 of macroblock i
+module _ (i : ℕ) (f : ℕ → ℕ) (s : List ℕ) where
+  pub written-length : length (written i f s) ≡ length s
+  unfolding written
+  written-length = filled-length 32 (32 * i) f s
+
+  pub written-at : (k : ℕ) → k < 32 → 32 * i + 32 ≤ length s → getD (written i f s) (32 * i + k) 0 ≡ f k
+  unfolding written
+  written-at k l h = filled-at 32 (32 * i) f s k h l
+
+  pub written-beside : (j : ℕ) → (j < 32 * i) ⊎ (32 * i + 32 ≤ j) → getD (written i f s) j 0 ≡ getD s j 0
+  unfolding written
+  written-beside j h = filled-beside 32 (32 * i) f s j (λ k l e. ⊎-elim (λ p. omega arith) (λ p. omega arith) h)
+
+-- ---- at most 4
+between-most : (outer : Bool) (p q : Blk) → between outer p q ≤ 4
+unfolding between
+between-most outer p q =
+    cond-both (λ (n : ℕ). n ≤ 4) (p .inter && q .inter) (le-trans (strength-le 3 p q) (lit≤ tt)) (cond-both (λ (n : ℕ). n ≤ 4) outer (lit≤ tt) (lit≤ tt))
+
+pub strength-most : (g : Grids) (w : ℕ) (t8 : Bool) (x y k : ℕ) → strengthAt g w t8 x y k ≤ 4
+unfolding strengthAt
+strength-most g w t8 x y k =
+    cond-both (λ (n : ℕ). n ≤ 4) (border x y k || skipped t8 k) {x = 0} (lit≤ tt)
+    (between-most (eqb (edge k) 0) (blkAt g (pBlock w x y k)) (blkAt g (qBlock w x y k)))

@@ -8,6 +8,7 @@ pub mod Outcomes
 pub mod Over
 pub mod Passed
 pub mod Ranges
+pub mod Refused
 pub mod Sized
 pub mod Whole
 pub mod Written

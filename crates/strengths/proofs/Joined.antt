@@ -50,18 +50,18 @@ module _ (g : Grids) (z : Size) (t8s : List ℕ) where
   from-grids qps s o p p′ d r =
       whole z o (lent s qps t8s) p p′ r
       ∙ (λ i.
-        frameOf
-        record {
-          depth = standard g z qps t8s o .depth;
-          w = z .w;
-          bs = derived-strengths s d i;
-          qp = standard g z qps t8s o .qp;
-          t8 = flagAt t8s;
-          a = o .a;
-          b = o .b;
-          chroma = o .chroma;
-        }
-        (z .h) p)
+      frameOf
+      record {
+        depth = standard g z qps t8s o .depth;
+        w = z .w;
+        bs = derived-strengths s d i;
+        qp = standard g z qps t8s o .qp;
+        t8 = flagAt t8s;
+        a = o .a;
+        b = o .b;
+        chroma = o .chroma;
+      }
+      (z .h) p)
 
   -- ---- a derived grid is what one flagless call a macroblock leaves, in raster order, each served: s 0 before the first, s n after the last
   abbrev asked : ℕ → Plain

@@ -7,6 +7,7 @@ ghost use lib.ListN.{length};
 ghost use Rattle.laws.specs.Refusal.{refusal};
 ghost use Rattle.edges.specs.Picture.{planes};
 ghost use Rattle.strengths.specs.Filtering.{lent, badRange, badFlags, qpsFrom, rowNumbers, rowValues, RowOutcome, FrameOutcome};
+use crate::checks::bad_size;
 use crate::filtering::any_over;
 use crate::filtering::bad_lent;
 use crate::filtering::bad_offsets;
@@ -15,7 +16,6 @@ use edges::Offsets;
 use edges::Size;
 use edges::picture::rows;
 use lines::tables::all;
-use crate::checks::bad_size;
 
 // Checks 1 to 6, which read lengths alone.
 fn bad_numbers(

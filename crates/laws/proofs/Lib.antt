@@ -1,4 +1,5 @@
 pub mod Abs
+pub mod Bools
 pub mod Clip
 pub mod Cond
 pub mod Equal

@@ -1,7 +1,7 @@
--- A law of lists that the kit lacks. Assumes nothing.
+-- Laws of lists that the kit lacks. Assumes nothing.
 use mathlib.Core.Path.{_≡_, refl}
 use mathlib.Core.List.{List, [], _∷_}
-use Prim.Native.Nat.{ℕ, zero, suc, _<_}
+use Prim.Native.Nat.{ℕ, zero, suc, _<_, _≤_}
 use native.Mathlib.Nat.{le-of-suc-le-suc, not-suc-le-zero}
 use lib.ListN.{length, getD}
 
@@ -10,3 +10,9 @@ pub within-any : {A : Type 0} (l : List A) (i : ℕ) (d e : A) → i < length l 
 within-any [] i d e h = absurd (not-suc-le-zero h)
 within-any (x ∷ l) zero d e h = refl
 within-any (x ∷ l) (suc i) d e h = within-any l i d e (le-of-suc-le-suc h)
+
+-- past its end a list holds nothing
+pub past : (l : List ℕ) (i : ℕ) → length l ≤ i → getD l i 0 ≡ 0
+past [] i h = refl
+past (x ∷ l) zero h = absurd (not-suc-le-zero h)
+past (x ∷ l) (suc i) h = past l i (le-of-suc-le-suc h)

@@ -36,6 +36,10 @@ passed (c ∷ cs) h e = go (c .1) refl (passed cs (h .1)) e
     go true f k z = absurd (h .0 z)
     go false f k z = (f, k z)
 
+pub none-applies : (cs : List (ℕ × Bool)) → Passed cs → refusal cs ≡ 0
+none-applies [] p = refl
+none-applies (c ∷ cs) p = rw (p .0) (none-applies cs (p .1))
+
 -- none of the first applies, and none of the others
 pub refusal-left : (cs ds : List (ℕ × Bool)) → Numbered cs → refusal (cs ++ ds) ≡ 0 → refusal cs ≡ 0
 refusal-left [] ds h e = refl

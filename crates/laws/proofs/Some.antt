@@ -8,6 +8,7 @@ use native.Mathlib.Numerals.{add-one}
 use native.Mathlib.Omega.{arith}
 use borrow.Author.Needs.{needs}
 use Rattle.laws.specs.Some.{some, every}
+use Rattle.laws.proofs.Bools.{and-true}
 
 pub some-none : (f : ℕ → Bool) → false ≡ some 0 f
 unfolding some
@@ -53,17 +54,12 @@ some-not n i f p h = go (f i) refl
     go false e = e
     go true e = let z : true ≡ false = sym (some-hit n i f h e) ∙ p in cc
 
-and-both : (s t : Bool) → (s && t) ≡ true → (s ≡ true) × (t ≡ true)
-and-both true true e = (refl, refl)
-and-both true false e = (refl, e)
-and-both false t e = let z : false ≡ true = e in (e, cc)
-
 -- what holds of every number holds of each
 pub every-at : (n i : ℕ) (f : ℕ → Bool) → every n f ≡ true → i < n → f i ≡ true
 unfolding every
 every-at zero i f p h = absurd (not-suc-le-zero h)
 every-at (suc n) i f p h =
-    let b = and-both (every n f) (f n) p in
+    let b = and-true (every n f) (f n) p in
     ⊎-elim (λ e. ap f e ∙ b .1) (λ l. every-at n i f (b .0) l) (eq-or-lt-of-le (le-of-suc-le-suc h))
 
 pub every-is : (n : ℕ) (f : ℕ → Bool) → ((i : ℕ) → i < n → f i ≡ true) → every n f ≡ true

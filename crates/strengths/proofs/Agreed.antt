@@ -18,7 +18,7 @@ use Rattle.strengths.specs.Kinds.{first, everyOwn, uniform, flat, isKind
 use Rattle.strengths.specs.Flags.{kindBy}
 use Rattle.strengths.specs.declared.kinds.MbKind.{MbKind}
 use Rattle.strengths.specs.declared.kinds.MbKind.the-variants.{Intra, Skip, InterUniform, Inter}
-use Rattle.strengths.proofs.Sized.{or-false}
+use Rattle.laws.proofs.Bools.{or-false}
 
 -- ---- what the code looks at
 abbrev pub oneMotion : Grids → ℕ → ℕ → ℕ → Bool

@@ -9,7 +9,7 @@ use Rattle.laws.proofs.Grid.{row-pos}
 use Rattle.laws.proofs.Ints.{le-or-lt}
 use Rattle.strengths.specs.Blocks.{own}
 use Rattle.strengths.specs.Strength.{vertical, edge, segment, row, column, qBlock, border, skipped}
-use Rattle.strengths.proofs.Sized.{or-false}
+use Rattle.laws.proofs.Bools.{or-false}
 
 not-both : (a b : ℕ) → (eqb a 0 && eqb b 0) ≡ false → 0 < a + b
 not-both zero zero e = let z : true ≡ false = e in absurd (no z)

@@ -6,6 +6,7 @@ use Prim.Native.Nat.{ℕ, suc, _+_, _-_, _*_, _/_, _%_, _≤_, _<_}
 use native.Mathlib.Omega.{arith}
 use borrow.Author.Tests.{eqb-false, not-true}
 use lib.Dec.{T, eqb, ltb}
+use Rattle.laws.proofs.Bools.{and-true}
 use Rattle.laws.specs.Some.{every}
 use Rattle.laws.proofs.Some.{every-at}
 use Rattle.motion.specs.Grids.{Grids, blkAt}
@@ -58,10 +59,6 @@ at g w x y i f e o = ap (λ (n : ℕ). f (blkAt g n)) (o .is) ∙ every-at 4 (o 
 true→T : {b : Bool} → b ≡ true → T b
 true→T e = subst T (sym e) tt
 
-and-both : (s t : Bool) → (s && t) ≡ true → (s ≡ true) × (t ≡ true)
-and-both true t e = (refl, e)
-and-both false t e = let z : false ≡ true = e in (e, cc)
-
 -- two inter blocks of the same motion
 same-inside : (p q : Blk) → p .inter ≡ true → q .inter ≡ true → T (sameMotion p q) → between false p q ≡ cond (p .nz || q .nz) 2 0
 unfolding between
@@ -78,8 +75,8 @@ module _ (g : Grids) (w x y : ℕ) (agree : disagree (g .inter) w x y ≡ false)
       → between false (blkAt g i) (blkAt g j) ≡ cond (blkAt g i .nz || blkAt g j .nz) 2 0
   unfolding uniform
   uniform-inside u i j o p =
-      let a = and-both _ _ (at g w x y i (λ b. b .inter && sameMotion b (blkAt g (origin w x y))) u o) in
-      let b = and-both _ _ (at g w x y j (λ b. b .inter && sameMotion b (blkAt g (origin w x y))) u p) in
+      let a = and-true _ _ (at g w x y i (λ b. b .inter && sameMotion b (blkAt g (origin w x y))) u o) in
+      let b = and-true _ _ (at g w x y j (λ b. b .inter && sameMotion b (blkAt g (origin w x y))) u p) in
       same-inside (blkAt g i) (blkAt g j) (a .0) (b .0) (same-join (blkAt g i) (blkAt g j) (blkAt g (origin w x y)) (true→T (a .1)) (true→T (b .1)))
 
   inside-is : (kind : MbKind) → isKind g w x y kind ≡ true → (i j : ℕ) → Own w x y i → Own w x y j
@@ -89,7 +86,7 @@ module _ (g : Grids) (w x y : ℕ) (agree : disagree (g .inter) w x y ≡ false)
   inside-is Inter e i j o p = let f = sym (inter-is g w x y agree) ∙ e in simp (inter-of i o ∙ f, inter-of j p ∙ f)
   inside-is InterUniform e i j o p = sym (uniform-inside e i j o p)
   inside-is Skip e i j o p =
-      let u = and-both (uniform g w x y) (everyOwn g w x y (λ b. not (b .nz))) e in
+      let u = and-true (uniform g w x y) (everyOwn g w x y (λ b. not (b .nz))) e in
       let a = not-true (blkAt g i .nz) (at g w x y i (λ b. not (b .nz)) (u .1) o) in
       let b = not-true (blkAt g j .nz) (at g w x y j (λ b. not (b .nz)) (u .1) p) in
       sym (uniform-inside (u .0) i j o p ∙ uncoded (blkAt g i .nz) (blkAt g j .nz) a b)

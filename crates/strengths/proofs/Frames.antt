@@ -9,19 +9,14 @@ use native.Mathlib.Omega.{arith}
 use borrow.Author.Tests.{ltb-false, eqb-true, ne-eqb, eq-eqb, not-false}
 use lib.Dec.{eqb, ltb}
 use lib.ListN.{length}
+use Rattle.laws.proofs.Bools.{or-false, equal, full}
 use Rattle.laws.specs.Refusal.{refusal}
 use Rattle.laws.proofs.Refusal.{Numbered, nonzero, passed, refusal-cut, refusal-left}
 use Rattle.edges.specs.Picture.{Planes, Room, held, rowsOf}
 use Rattle.edges.specs.declared.Offsets.{Offsets}
 use Rattle.edges.specs.declared.Size.{Size}
-use Rattle.strengths.proofs.Sized.{or-false, Sized, sized}
+use Rattle.strengths.proofs.Sized.{Sized, sized}
 use Rattle.strengths.specs.Filtering.{Lent, rowNumbers, rowValues, rowAnswer, RowOutcome}
-
-equal : (a b : ℕ) → not (eqb a b) ≡ false → a ≡ b
-equal a b e = eqb-true a b (not-false (eqb a b) e)
-
-either : (s t : Bool) → not (s || t) ≡ false → s ≡ false → t ≡ true
-either s t e f = not-false t (sym (ap (λ (b : Bool). not (b || t)) f) ∙ e)
 
 pub record Good (z : Size) (a b y u v strengths qps t8s : ℕ) : Type 0 where
   pub size : Sized z
@@ -55,7 +50,7 @@ module _ (z : Size) (a b : ℕ) (o : Offsets) (y u v strengths qps t8s : ℕ) wh
         cr = equal _ _ (q .1);
         strength = equal _ _ (ll .0);
         qp = equal _ _ (ll .1);
-        flag = λ f. eqb-true _ _ (either (eqb t8s 0) (eqb t8s (z .w * z .h)) (l .1) f);
+        flag = full t8s (z .w * z .h) (l .1);
       }
 
 module _ (z : Size) (a b y u v strengths qps t8s : ℕ) (g : Good z a b y u v strengths qps t8s) where

@@ -11,6 +11,7 @@ use borrow.Author.Tests.{le-ltb, lt-ltb}
 use native.Mathlib.Decide.{decLt}
 use lib.Dec.{ltb}
 use lib.ListN.{length, getD}
+use Rattle.laws.proofs.Lists.{past}
 use Rattle.motion.specs.Grids.{Grids}
 use Rattle.edges.specs.Picture.{Planes, Held, entries, flagAt, held, frameOf}
 use Rattle.edges.specs.declared.Offsets.{Offsets}
@@ -22,11 +23,6 @@ use Rattle.strengths.specs.Strength.{written}
 use Rattle.strengths.specs.declared.kinds.Plain.{Plain}
 use Rattle.strengths.proofs.Whole.{whole}
 use Rattle.strengths.proofs.Written.{written-length, written-at, written-beside}
-
-past : (s : List ℕ) (k : ℕ) → length s ≤ k → getD s k 0 ≡ 0
-past [] k h = refl
-past (x ∷ s) zero h = absurd (not-suc-le-zero h)
-past (x ∷ s) (suc k) h = past s k (le-of-suc-le-suc h)
 
 module _ (g : Grids) (z : Size) (t8s : List ℕ) where
   -- a derived grid holds the standard's strengths, and nothing past them

@@ -21,7 +21,7 @@ use Rattle.strengths.specs.declared.kinds.Flagged.{Flagged}
 use Rattle.strengths.proofs.Agreed.{inter-is, intra-is}
 use Rattle.strengths.proofs.ByKind.{kind-is}
 use Rattle.strengths.proofs.Passed.{Good, good}
-use Rattle.strengths.proofs.Sized.{or-false}
+use Rattle.laws.proofs.Bools.{or-false}
 
 module _ (z : Size) (x y : ℕ) (g : Grids) (n : ℕ) where
   first-four : Numbered (numbers z x y g n)

@@ -8,6 +8,7 @@ use native.Mathlib.Omega.{arith}
 use borrow.Author.Tests.{eqb-true, leb-false, not-false}
 use lib.Dec.{eqb, leb}
 use lib.ListN.{length}
+use Rattle.laws.proofs.Bools.{and-true, or-false, or-true, equal}
 use Rattle.laws.specs.Refusal.{refusal}
 use Rattle.laws.proofs.Grid.{row-fits}
 use Rattle.laws.proofs.Refusal.{nonzero, passed}
@@ -16,18 +17,7 @@ use Rattle.strengths.specs.Blocks.{own, Inside}
 use Rattle.strengths.specs.Checks.{badSize}
 use Rattle.strengths.specs.Calls.{numbers}
 use Rattle.edges.specs.declared.Size.{Size}
-use Rattle.strengths.proofs.Sized.{or-false, Sized, sized}
-
-equal : (a b : ℕ) → not (eqb a b) ≡ false → a ≡ b
-equal a b e = eqb-true a b (not-false (eqb a b) e)
-
-or-true : (s t : Bool) → (s || t) ≡ true → (s ≡ true) ⊎ (t ≡ true)
-or-true true t e = inl refl
-or-true false t e = inr e
-
-and-true : (s t : Bool) → (s && t) ≡ true → (s ≡ true) × (t ≡ true)
-and-true true t e = (refl, e)
-and-true false t e = let z : false ≡ true = e in (e, cc)
+use Rattle.strengths.proofs.Sized.{Sized, sized}
 
 pub record Good (z : Size) (x y : ℕ) (g : Grids) (n : ℕ) : Type 0 where
   pub size : Sized z

@@ -6,12 +6,9 @@ use native.Mathlib.Nat.{mul-le-mul}
 use native.Mathlib.Omega.{arith}
 use borrow.Author.Tests.{eqb-false, ltb-false}
 use lib.Dec.{eqb, ltb}
+use Rattle.laws.proofs.Bools.{or-false}
 use Rattle.strengths.specs.Checks.{badSize}
 use Rattle.edges.specs.declared.Size.{Size}
-
-pub or-false : (s t : Bool) → (s || t) ≡ false → (s ≡ false) × (t ≡ false)
-or-false true t e = let z : true ≡ false = e in (e, cc)
-or-false false t e = (refl, e)
 
 -- both sides are 1 to 256
 pub record Sides (w h : ℕ) : Type 0 where

@@ -15,7 +15,7 @@ use Rattle.laws.specs.Grid.{Near, is-left, is-up, is-up-right, Dep}
 use Rattle.laws.proofs.Grid.{index-lt}
 use Rattle.visits.specs.Visit.{marked, lacksLeft, lacksUpper, lacksUpperRight, waiting}
 use Rattle.visits.specs.AnyOrder.{Visited, Unvisited, Waits, AllVisited}
-use Rattle.visits.proofs.Tests.{and-parts, and-both, or-parts, or-left, or-right, eq→eqb}
+use Rattle.laws.proofs.Bools.{and-parts, and-both, or-parts, or-left, or-right, eq→eqb}
 
 -- ---- the test and what it means
 module _ (W : ℕ) (ms : List ℕ) where

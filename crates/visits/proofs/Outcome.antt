@@ -9,7 +9,7 @@ use borrow.Author.Tests.{eq-eqb, ne-eqb}
 use lib.Dec.{eqb, ltb, ltb→lt}
 use lib.ListN.{getD, set}
 use Rattle.visits.specs.Visit.{At, State, marked, waiting, answer, visit, Outcome}
-use Rattle.visits.proofs.Tests.{and-parts, guarded}
+use Rattle.laws.proofs.Bools.{and-parts, guarded}
 
 -- ---- the answer, by the first check that applies
 module _ (W : ℕ) {S : Type 0} (early : State S → At → ℕ) (s : State S) (r : At) where

@@ -40,7 +40,7 @@ module _
     pub size : length (s .1) ≡ W * H
     pub bits : Bits (s .1)
 
-  good-visit : (s : State S) (r : At) → Good s → Good (visit W step early s r .1)
+  pub good-visit : (s : State S) (r : At) → Good s → Good (visit W step early s r .1)
   unfolding visit
   good-visit s r g = cond-both Good (eqb (answer W early s r) 0) stepped g
     where

@@ -12,7 +12,7 @@ use Rattle.laws.proofs.Cond.{cond-cases}
 use Rattle.visits.specs.Visit.{At, State, visit}
 use Rattle.visits.specs.AnyOrder.{Demand3}
 use Rattle.visits.specs.Old.{oldVisit}
-use Rattle.visits.proofs.Tests.{and-parts}
+use Rattle.laws.proofs.Bools.{and-parts}
 use Rattle.visits.proofs.AnyOrder.{any-order}
 use Rattle.visits.proofs.Old.{old-refuted}
 

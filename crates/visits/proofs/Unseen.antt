@@ -1,6 +1,6 @@
 -- What demand 3 cannot tell: in a run from nothing visited no macroblock is marked and waits, so whether 13 or 14 is asked first is never seen there. The
 -- promise of one visit tells (Refused.antt). Assumes nothing.
-use mathlib.Core.Path.{_≡_, refl, ap}
+use mathlib.Core.Path.{_≡_, refl}
 use mathlib.Core.Bool.{Bool, true, false, cond}
 use mathlib.Core.List.{List}
 use Prim.Native.Nat.{ℕ, _+_, _*_, _<_}

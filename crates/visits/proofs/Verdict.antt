@@ -6,7 +6,7 @@ use lib.Dec.{eqb, eqb→eq, T-not}
 use Rattle.laws.proofs.Cond.{cond-cases}
 use Rattle.visits.specs.Visit.{At, State, marked, waiting, answer}
 use Rattle.visits.specs.AnyOrder.{AsksPlace, Visited, Unvisited, Waits}
-use Rattle.visits.proofs.Tests.{eq→eqb}
+use Rattle.laws.proofs.Bools.{eq→eqb}
 use Rattle.visits.proofs.Neighbours.{waiting→waits, waits→waiting, marked→visited, unmarked→unvisited}
 
 pub data Verdict (W H : ℕ) {S : Type 0} (early : State S → At → ℕ) (s : State S) (r : At) (n : ℕ) : Type 0 where

@@ -1,7 +1,9 @@
 pub mod AnyOrder
 pub mod Calls
 pub mod Cases
+pub mod Checks
+pub mod Fault
 pub mod Old
-pub mod Planes
+pub mod Promise
 pub mod Rounds
 pub mod Visit

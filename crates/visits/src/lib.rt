@@ -1,1 +1,3 @@
-// No code yet: the definitions of visits stand in specs/, demand 3 and what follows from it in proofs/.
+// Visits: macroblocks filtered in the order in which they arrive, each once its left, upper and upper right neighbours have been.
+pub mod checks;
+pub mod visits;

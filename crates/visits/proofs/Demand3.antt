@@ -1,0 +1,60 @@
+-- Demand 3, of the visit that the code makes: the filter is that of demand 2, the checks are document 01's. `AnyOrder` has its sentences one by one. Assumes
+-- nothing.
+use mathlib.Core.Path.{_≡_, sym, _∙_}
+use mathlib.Core.Logic.{_⊎_}
+use mathlib.Core.List.{List, []}
+use Prim.Native.Nat.{ℕ, _*_, _<_}
+use lib.ListN.{length, getD}
+use Rattle.laws.proofs.Cond.{cond-both}
+use Rattle.edges.specs.Picture.{Planes, stepOf, frameOf}
+use Rattle.edges.proofs.Pictures.{frame-steps}
+use Rattle.visits.specs.Visit.{At, State, Call, run, answers}
+use Rattle.visits.specs.AnyOrder.{AllVisited, AnyOrder, Demand3}
+use Rattle.visits.specs.Calls.{requests, Calls}
+use Rattle.visits.specs.Checks.{Given, heldOf, earlyOf, Sound, Fit}
+use Rattle.visits.specs.Promise.{visitOf, unvisited, uneven, ReplayOutcome}
+use Rattle.visits.proofs.AnyOrder.{any-order}
+use Rattle.visits.proofs.Calls.{calls-any-order}
+use Rattle.visits.proofs.Marks.{zeros-are-fresh}
+use Rattle.visits.proofs.Progress as progress
+use Rattle.visits.proofs.Unique as unique
+use Rattle.visits.proofs.Instance.{asks-place, commutes, fit-kept, passes-valid}
+
+-- d is what is lent and stays the same; of its size only that there is a column is asked
+module _ (d : Given) (wide : 0 < d .size .w) where
+  -- for every picture to start with and every list of requests
+  pub demand-3 : Demand3 (d .size .w) (d .size .h) (stepOf (heldOf d)) (earlyOf d) (visitOf d)
+  demand-3 = any-order (d .size .w) (d .size .h) (stepOf (heldOf d)) (earlyOf d) (asks-place d) (commutes d wide)
+
+  -- .. and of any calls that keep the contract of `visit`
+  pub of-calls : {start : Planes} {rs : List At} {ns : List ℕ} {now : State Planes}
+      → Calls (d .size .w) (stepOf (heldOf d)) (earlyOf d) (unvisited d start) rs ns now
+      → AnyOrder (d .size .w) (d .size .h) (stepOf (heldOf d)) (earlyOf d) (visitOf d) start now
+  of-calls = calls-any-order (d .size .w) (d .size .h) (stepOf (heldOf d)) (earlyOf d) (asks-place d) (commutes d wide)
+
+  -- .. and of what `replay` leaves, where the marks that it is lent are all 0
+  pub of-replay : {start : Planes} {ms xs ys out out′ : List ℕ} {n : ℕ} {now : State Planes} → length ms ≡ d .size .w * d .size .h
+      → ((i : ℕ) → i < d .size .w * d .size .h → getD ms i 0 ≡ 0) → ReplayOutcome d xs ys (start, ms) out n now out′
+      → AnyOrder (d .size .w) (d .size .h) (stepOf (heldOf d)) (earlyOf d) (visitOf d) start now
+  of-replay {start} {ms} {xs} {ys} {out} l z r =
+      rw (r .leaves, zeros-are-fresh (d .size .w) (d .size .h) ms l z)
+      (cond-both (AnyOrder (d .size .w) (d .size .h) (stepOf (heldOf d)) (earlyOf d) (visitOf d) start) (uneven xs ys out) (demand-3 start [])
+      (demand-3 start (requests xs ys)))
+
+  -- all visited: what filtering the whole picture gives
+  pub same-as-whole : (start : Planes) (rs : List At) → let now = run (visitOf d) rs (unvisited d start) in
+      AllVisited (d .size .w) (d .size .h) (now .1) → now .0 ≡ frameOf (heldOf d) (d .size .h) start
+  same-as-whole start rs all = demand-3 start rs .whole all ∙ sym (frame-steps (heldOf d) (d .size .h) start)
+
+  -- it says all: any visit of which demand 3 holds gives these answers and these states
+  pub one-behaviour : (other : Call Planes) → Demand3 (d .size .w) (d .size .h) (stepOf (heldOf d)) (earlyOf d) other → (start : Planes) (rs : List At)
+      → (answers (visitOf d) rs (unvisited d start) ≡ answers other rs (unvisited d start))
+      × (run (visitOf d) rs (unvisited d start) ≡ run other rs (unvisited d start))
+  one-behaviour other D = unique.one-behaviour (d .size .w) (d .size .h) (stepOf (heldOf d)) (earlyOf d) (asks-place d) (visitOf d) other demand-3 D
+
+  -- "while one is unvisited, some visit is ready": with valid data throughout it answers 0
+  pub never-stuck : Sound d → (start : Planes) → Fit d start → (rs : List At) → let now = run (visitOf d) rs (unvisited d start) in
+      AllVisited (d .size .w) (d .size .h) (now .1)
+      ⊎ ((x : ℕ) × (y : ℕ) × (x < d .size .w) × (y < d .size .h) × (visitOf d now (x, y) .0 ≡ 0))
+  never-stuck v =
+      progress.never-stuck (d .size .w) (d .size .h) (stepOf (heldOf d)) (earlyOf d) (visitOf d) (Fit d) (fit-kept d) (passes-valid d v) demand-3

@@ -1,0 +1,111 @@
+-- Wrong visits, with the real filter: those of Refused.antt that need a picture, each on one on which the filter does something. Assumes nothing.
+use mathlib.Core.Path.{_≡_, refl, ap}
+use mathlib.Core.Logic.{_≢_}
+use mathlib.Core.List.{List, [], _∷_, _++_}
+use Prim.Native.Nat.{ℕ, _*_, _<_}
+use native.Mathlib.Omega.{arith}
+use lib.IntN.{pos}
+use lib.ListN.{length, getD, replicate, length-replicate}
+use lib.Dec.{T}
+use Rattle.laws.specs.Clip.{clip3, clip1}
+use Rattle.laws.specs.Loop.{upTo}
+use Rattle.laws.specs.Places.{Plane}
+use Rattle.laws.proofs.Table.{bounded, at-most}
+use Rattle.lines.specs.Filter.{deltaOf}
+use Rattle.lines.specs.Tables.{alphas, betas, tc0s}
+use Rattle.lines.specs.Thresholds.{average, indexOf}
+use Rattle.lines.specs.Luma.{nudgeOf, innerOf, lumaNormal, normalLine, lumaLine}
+use Rattle.lines.specs.Planes.{lumaAt}
+use Rattle.edges.specs.Depth.{eight}
+use Rattle.edges.specs.Edge.{lumaRule, lumaEdge}
+use Rattle.edges.specs.Macroblock.{lumaWay, lumaBoth}
+use Rattle.edges.specs.Picture.{Planes, planes, lumaOf, flagAt, macroblockAt, stepOf}
+use Rattle.visits.specs.Visit.{At, State, fresh}
+use Rattle.visits.specs.AnyOrder.{Demand3}
+use Rattle.visits.specs.Old.{oldVisit}
+use Rattle.visits.specs.Checks.{Given, given, heldOf, earlyOf, Sound, Fit}
+use Rattle.visits.specs.Promise.{VisitOutcome}
+use Rattle.visits.specs.Fault.{band, outer, faultGiven}
+use Rattle.visits.proofs.Marks.{fresh-bits}
+use Rattle.visits.proofs.Instance.{fit-kept, passes-valid}
+use Rattle.visits.proofs.Fault as fault
+use Rattle.visits.proofs.Refused as refused
+use Rattle.visits.proofs.Refused.{idleVisit, firstOnly, readyFirst, marksRefused}
+
+-- ---- always refuses: with valid data, on any picture
+pub always-refuses : (d : Given) → Sound d → 0 < d .size .w → 0 < d .size .h → (start : Planes) → Fit d start → (number : State Planes → At → ℕ)
+    → ((t : State Planes) (r : At) → number t r ≢ 0) → Demand3 (d .size .w) (d .size .h) (stepOf (heldOf d)) (earlyOf d) (λ t r. (number t r, t)) → ⊥
+always-refuses d v w h start f =
+    refused.always-refuses (stepOf (heldOf d)) (earlyOf d) start (d .size .w) (d .size .h) w h
+    (passes-valid d v (start, fresh (d .size .w) (d .size .h)) f (length-replicate (d .size .w * d .size .h) 0) (fresh-bits (d .size .w * d .size .h)) 0 0 w h)
+
+-- ---- two macroblocks side by side, the upper row of Fault.antt
+abbrev pub pairGiven : Given
+pairGiven = given (record { w = 2; h = 1 }) (record { a = pos 0; b = pos 0; chroma = pos 0 }) (outer 0 0 ++ outer 1 0) (40 ∷ 40 ∷ []) []
+
+abbrev pub pair : Planes
+pair = planes (band 16 16 100 16 103) (replicate 128 128) (replicate 128 128)
+
+pair-sound : Sound pairGiven
+pair-sound = record { sides = refl; lengths = refl; range = refl; flag = at-most 1 [] tt; qp = at-most 51 (40 ∷ 40 ∷ []) tt; strength = at-most 4 (outer 0 0 ++ outer 1 0) tt }
+
+pair-fit : Fit pairGiven pair
+unfolding band
+pair-fit = record { luma = refl; cb = refl; cr = refl }
+
+pair-clear : (p : Planes) → Fit pairGiven p → (a b x : ℕ) → T (bounded 1 (a ∷ b ∷ [])) → x < 2 → earlyOf pairGiven (p, a ∷ b ∷ []) (x, 0) ≡ 0
+pair-clear p f a b x m h = passes-valid pairGiven pair-sound (p, a ∷ b ∷ []) f refl (at-most 1 (a ∷ b ∷ []) m) x 0 h (omega arith)
+
+abbrev pub pairStep : ℕ → Planes → Planes
+pairStep = stepOf (heldOf pairGiven)
+
+-- filtering the second changes sample (15, 0)
+pair-moves : pairStep 1 (pairStep 0 pair) ≢ pairStep 0 pair
+unfolding band macroblockAt lumaOf flagAt upTo eight lumaRule lumaEdge lumaWay lumaBoth lumaAt lumaLine normalLine lumaNormal nudgeOf innerOf deltaOf clip3 clip1 average indexOf alphas betas tc0s
+pair-moves e = let k : _≡_ {A = ℕ} 101 100 = ap (λ (p : Planes). getD (p .y) 15 0) e in omega arith
+
+-- filters on the first visit and afterwards only sets marks
+pub first-only : Demand3 2 1 pairStep (earlyOf pairGiven) (firstOnly 2 pairStep (earlyOf pairGiven)) → ⊥
+first-only =
+    refused.first-only pairStep (earlyOf pairGiven) pair (pair-clear pair pair-fit 0 0 0 tt (omega arith))
+    (pair-clear (pairStep 0 pair) (fit-kept pairGiven 0 pair pair-fit) 1 0 1 tt (omega arith)) pair-moves
+
+-- asks 14 before 13: no answer and no state after it is allowed
+pub ready-first : (t : State Planes) → VisitOutcome pairGiven (pair, 0 ∷ 1 ∷ []) (1, 0) (readyFirst 2 pairStep (earlyOf pairGiven) (pair, 0 ∷ 1 ∷ []) (1, 0)) t → ⊥
+ready-first = refused.ready-first pairStep (earlyOf pairGiven) pair (pair-clear pair pair-fit 0 1 1 tt (omega arith))
+
+-- sets its mark though it refuses
+pub marks-refused : Demand3 2 1 pairStep (earlyOf pairGiven) (marksRefused 2 pairStep (earlyOf pairGiven)) → ⊥
+marks-refused = refused.marks-refused pairStep (earlyOf pairGiven) pair (pair-clear pair pair-fit 0 0 1 tt (omega arith))
+
+-- ---- one macroblock, with strength 1 on its second vertical edge
+abbrev oneStrengths : List ℕ
+oneStrengths = replicate 4 0 ++ replicate 4 1 ++ replicate 24 0
+
+abbrev pub oneGiven : Given
+oneGiven = given (record { w = 1; h = 1 }) (record { a = pos 0; b = pos 0; chroma = pos 0 }) oneStrengths (40 ∷ []) []
+
+abbrev pub one : Planes
+one = planes (band 16 4 100 12 103) (replicate 64 128) (replicate 64 128)
+
+one-sound : Sound oneGiven
+one-sound = record { sides = refl; lengths = refl; range = refl; flag = at-most 1 [] tt; qp = at-most 51 (40 ∷ []) tt; strength = at-most 4 oneStrengths tt }
+
+one-fit : Fit oneGiven one
+unfolding band
+one-fit = record { luma = refl; cb = refl; cr = refl }
+
+one-moves : stepOf (heldOf oneGiven) 0 one ≢ one
+unfolding band macroblockAt lumaOf flagAt upTo eight lumaRule lumaEdge lumaWay lumaBoth lumaAt lumaLine normalLine lumaNormal nudgeOf innerOf deltaOf clip3 clip1 average indexOf alphas betas tc0s
+one-moves e = let k : _≡_ {A = ℕ} 101 100 = ap (λ (p : Planes). getD (p .y) 3 0) e in omega arith
+
+-- leaves the planes untouched
+pub planes-untouched : Demand3 1 1 (stepOf (heldOf oneGiven)) (earlyOf oneGiven) (idleVisit 1 (stepOf (heldOf oneGiven)) (earlyOf oneGiven)) → ⊥
+planes-untouched =
+    refused.planes-untouched (stepOf (heldOf oneGiven)) (earlyOf oneGiven) one
+    (passes-valid oneGiven one-sound (one, 0 ∷ []) one-fit refl (at-most 1 (0 ∷ []) tt) 0 0 (omega arith) (omega arith)) one-moves
+
+-- ---- readiness without the upper right neighbour, on the picture of Fault.antt: already the answer to its second visit is wrong
+pub without-upper-right : (u v : Plane) → length u ≡ 256 → length v ≡ 256
+    → Demand3 2 2 (stepOf (heldOf faultGiven)) (earlyOf faultGiven) (oldVisit 2 (stepOf (heldOf faultGiven)) (earlyOf faultGiven)) → ⊥
+without-upper-right u v lu lv = refused.without-upper-right (fault.step u v lu lv) (earlyOf faultGiven) (fault.start u v lu lv) (fault.old-clear u v lu lv)

@@ -1,0 +1,123 @@
+-- `visit`: the four ways out are those of the promise. Assumes nothing.
+use borrow.Author.Needs.{needs}
+use borrow.Author.Tests.{eq-eqb, ne-eqb}
+use mathlib.Core.Path.{_≡_, refl, sym, _∙_}
+use Prim.Native.Nat.{_+_, _*_, _<_}
+use native.Mathlib.Omega.{arith}
+use lib.ListN.{length}
+use Rattle.edges.specs.Picture.{Planes, planes}
+use Rattle.edges.proofs.Pictures.{step-index}
+use Rattle.visits.specs.Visit.{At, State}
+use Rattle.visits.specs.Checks.{Given, given, heldOf, earlyOf}
+use Rattle.visits.proofs.Outcome.{answer-early, answer-13, answer-14, answer-0, refused-outcome, done-outcome}
+use Rattle.visits.proofs.Passed.{Good, all-good, index, inside, room}
+use Rattle.visits.proofs.visits.visit.Statement.{statement}
+use Rattle.visits.proofs.visits.visit.Tie as tie
+
+abbrev data-of : tie.Start → Given
+data-of s = let a = s .args in given (a .z) (a .o) (a .strengths .now) (a .qps .now) (a .t8s .now)
+
+abbrev state : tie.Start → State Planes
+state s = let a = s .args in (planes (a .luma .now) (a .u .now) (a .v .now), a .marks .now)
+
+abbrev asked : tie.Start → At
+asked s = (s .args .x, s .args .y)
+
+-- where the call goes on after the earlier checks
+abbrev start : tie.Else1 → tie.Start
+start c = c .before .before .before .before .before .before .before .before .before .before
+
+zero : (c : tie.Else1) → let s = start c in earlyOf (data-of s) (state s) (asked s) ≡ 0
+unfolding earlyOf
+zero c = sym (c .before .refuse .ensures) ∙ c .if1 .left
+
+ok : (c : tie.Else1) → let s = start c in let a = s .args in
+    Good (data-of s) (length (a .luma .now)) (length (a .u .now)) (length (a .v .now)) (length (a .marks .now)) (asked s)
+unfolding earlyOf
+ok c = let s = start c in let a = s .args in all-good (data-of s) (length (a .luma .now)) (length (a .u .now)) (length (a .v .now)) (a .marks .now) (asked s) (zero c)
+
+place : (c : tie.Else1) → let a = start c .args in a .y * a .z .w + a .x < a .z .w * a .z .h
+place c = let s = start c in index (data-of s) _ _ _ _ (asked s) (ok c)
+
+-- a refusal before 13
+returns : tie.Need-returns
+unfolding earlyOf
+returns c =
+    let s = c .before .before .before .before .before .before .before .before .before .before in
+    let e = c .before .refuse .ensures in
+    refused-outcome
+    (answer-early (s .args .z .w) (earlyOf (data-of s)) (state s) (asked s) (λ k. c .if1 .taken (e ∙ k)) ∙ sym e) (c .if1 .taken)
+
+returns-2 : tie.Need-returns-2
+returns-2 c =
+    let f = c .before .before in
+    let s = start f in
+    refused-outcome (answer-13 (s .args .z .w) (earlyOf (data-of s)) (state s) (asked s) (zero f) (eq-eqb _ 1 (c .if2 .taken))) (omega arith)
+
+-- the mark is not set
+abbrev past : tie.Else2 → tie.Else1
+past c = c .before .before
+
+waits-requires : tie.Need-waits-requires
+waits-requires c κs =
+    let f = past (c .before) in
+    let s = start f in
+    inside (data-of s) _ _ _ _ (asked s) (ok f) (length (s .args .marks .now)) (ok f .marks)
+
+returns-3 : tie.Need-returns-3
+returns-3 c =
+    let two = c .before .before .before in
+    let f = past two in
+    let s = start f in
+    refused-outcome
+    (answer-14 (s .args .z .w) (earlyOf (data-of s)) (state s) (asked s) (zero f) (ne-eqb _ 1 (two .if2 .left)) (sym (c .before .waits .ensures) ∙ c .if3 .taken))
+    (omega arith)
+
+-- it waits for none
+abbrev before-three : tie.Else3 → tie.Else2
+before-three c = c .before .before .before
+
+macroblock-requires : tie.Need-macroblock-requires
+macroblock-requires c κs =
+    let all = c .before .before .before .before in
+    let f = past (before-three (all .before)) in
+    let s = start f in
+    (all .all .ensures, (omega (arith, ok f .column), room (data-of s) _ _ _ _ (asked s) (ok f)))
+
+returns-4 : tie.Need-returns-4
+returns-4 c =
+    let m = c .before .before .before .before .before .before in
+    let three = m .before .before .before .before .before .before in
+    let two = before-three three in
+    let f = past two in
+    let s = start f in
+    done-outcome
+    (answer-0 (s .args .z .w) (earlyOf (data-of s)) (state s) (asked s) (zero f) (ne-eqb _ 1 (two .if2 .left)) (sym (three .before .waits .ensures) ∙ three .if3 .left))
+    (m .macroblock .ensures ∙ sym (step-index (heldOf (data-of s)) (s .args .x) (s .args .y) (ok f .column) (state s .0)))
+    refl
+
+pub visit-spec : {M : Type 1} → statement M
+visit-spec =
+    tie.close
+    (tie.spec
+    (λ c κs. search needs)
+    (λ c. search needs)
+    returns
+    (λ c. omega (arith, place c, ok c .size .most))
+    (λ c. omega (arith, place c, ok c .size .most))
+    (λ c. omega (arith, place (c .before), ok (c .before) .marks))
+    (λ c. search needs)
+    returns-2
+    waits-requires
+    (λ c. search needs)
+    returns-3
+    (λ c κs. search needs)
+    macroblock-requires
+    (λ c.
+    let f = past (before-three (c .before .before .before .before .before .before .before .before .before .before .before .before)) in
+    omega (arith, place f, ok f .marks))
+    (λ c. search needs)
+    (λ c. search needs)
+    (λ c. search needs)
+    (λ c. search needs)
+    returns-4)

@@ -1,0 +1,147 @@
+// A visit, and visits replayed. Neither asks anything of its caller; a refusal changes no byte.
+ghost use mathlib.Core.Path.{_≡_};
+ghost use mathlib.Core.Bool.{true, not, _&&_};
+ghost use Prim.Native.Nat.{_-_, _<_, _≤_};
+ghost use lib.Dec.{eqb};
+ghost use lib.ListN.{length, getD};
+ghost use Rattle.edges.specs.Picture.{planes};
+ghost use Rattle.visits.specs.Checks.{given, Inside};
+ghost use Rattle.visits.specs.Promise.{VisitOutcome, Replayed, ReplayOutcome};
+ghost use Rattle.visits.specs.Visit.{waiting};
+use crate::checks::refuse;
+use edges::Offsets;
+use edges::Size;
+use edges::picture::macroblock;
+use lines::tables::all;
+
+// Where there is a neighbour d places before i, it is unmarked.
+fn lacks(near: bool, marks: &[u8], i: usize, d: usize) -> bool
+    requires { ⌜ (i < length (now marks)) × (near ≡ true → d ≤ i) ⌝ }
+    ensures { λ r. ⌜ r ≡ (near && not (eqb (getD (now (marks .entry)) (i - d) 0) 1)) ⌝ }
+{
+    if near {
+        return marks[i - d] != 1;
+    }
+    false
+}
+
+// Check 14.
+fn waits(marks: &[u8], w: usize, x: usize, y: usize) -> bool
+    requires { ⌜ Inside w x y (length (now marks)) ⌝ }
+    ensures { λ r. ⌜ r ≡ waiting w (now (marks .entry)) x y ⌝ }
+{
+    let i = y * w + x;
+    let left = lacks(0 < x, marks, i, 1);
+    let upper = lacks(0 < y, marks, i, w);
+    let upper_right = lacks((0 < y) & (x + 1 < w), marks, i, w - 1);
+    left | upper | upper_right
+}
+
+// Macroblock (x, y) filtered and marked, or a refusal.
+pub fn visit(
+    z: Size,
+    x: usize,
+    y: usize,
+    o: Offsets,
+    luma: &mut [u8],
+    u: &mut [u8],
+    v: &mut [u8],
+    strengths: &[u8],
+    qps: &[u8],
+    t8s: &[u8],
+    marks: &mut [u8],
+) -> u32
+    ensures { λ r. ⌜ VisitOutcome (given z o (now (strengths .entry)) (now (qps .entry)) (now (t8s .entry))) (planes (now (luma .entry)) (now (u .entry)) (now (v .entry)), now (marks .entry)) (x, y) r (planes (now (luma .exit)) (now (u .exit)) (now (v .exit)), now (marks .exit)) ⌝ }
+{
+    let n = refuse(
+        z,
+        x,
+        y,
+        o,
+        luma.len(),
+        u.len(),
+        v.len(),
+        strengths,
+        qps,
+        t8s,
+        marks,
+    );
+    if n != 0 {
+        return n;
+    }
+    let w = z.w;
+    let i = y * w + x;
+    if marks[i] == 1 {
+        return 13;
+    }
+    if waits(marks, w, x, y) {
+        return 14;
+    }
+    let t = all();
+    macroblock(luma, u, v, &t, w, x, y, qps, t8s, strengths, o);
+    marks[i] = 1;
+    0
+}
+
+// Visits of (xs[k], ys[k]) for each k in turn, each answer in answers[k].
+fn each(
+    z: Size,
+    o: Offsets,
+    xs: &[usize],
+    ys: &[usize],
+    luma: &mut [u8],
+    u: &mut [u8],
+    v: &mut [u8],
+    strengths: &[u8],
+    qps: &[u8],
+    t8s: &[u8],
+    marks: &mut [u8],
+    answers: &mut [u32],
+)
+    requires { ⌜ (length (now ys) ≡ length (now xs)) × (length (now answers) ≡ length (now xs)) ⌝ }
+    ensures { λ _. ⌜ Replayed (given z o (now (strengths .entry)) (now (qps .entry)) (now (t8s .entry))) (now (xs .entry)) (now (ys .entry)) (planes (now (luma .entry)) (now (u .entry)) (now (v .entry)), now (marks .entry)) (planes (now (luma .exit)) (now (u .exit)) (now (v .exit)), now (marks .exit)) (now (answers .exit)) ⌝ }
+{
+    let mut k: usize = 0;
+    while k < xs.len() {
+        let n = visit(z, xs[k], ys[k], o, luma, u, v, strengths, qps, t8s, marks);
+        answers[k] = n;
+        k += 1;
+    }
+}
+
+// Requests as they arrived, replayed. Lists of different lengths are refused with 4.
+pub fn replay(
+    z: Size,
+    o: Offsets,
+    xs: &[usize],
+    ys: &[usize],
+    luma: &mut [u8],
+    u: &mut [u8],
+    v: &mut [u8],
+    strengths: &[u8],
+    qps: &[u8],
+    t8s: &[u8],
+    marks: &mut [u8],
+    answers: &mut [u32],
+) -> u32
+    ensures { λ r. ⌜ ReplayOutcome (given z o (now (strengths .entry)) (now (qps .entry)) (now (t8s .entry))) (now (xs .entry)) (now (ys .entry)) (planes (now (luma .entry)) (now (u .entry)) (now (v .entry)), now (marks .entry)) (now (answers .entry)) r (planes (now (luma .exit)) (now (u .exit)) (now (v .exit)), now (marks .exit)) (now (answers .exit)) ⌝ }
+{
+    if (ys.len() != xs.len()) | (answers.len() != xs.len()) {
+        return 4;
+    }
+    each(
+        z,
+        o,
+        xs,
+        ys,
+        luma,
+        u,
+        v,
+        strengths,
+        qps,
+        t8s,
+        marks,
+        answers,
+    );
+    0
+}

@@ -1,0 +1,46 @@
+-- The numbers that the C interface takes, as the calls take them.
+use Prim.Native.Nat.{ℕ}
+use mathlib.Core.Bool.{Bool, cond, not, _||_}
+use lib.Dec.{eqb, ltb}
+use lib.IntN.{ℤ}
+use Rattle.edges.specs.declared.Offsets.{Offsets}
+use Rattle.edges.specs.declared.Size.{Size}
+use Rattle.motion.specs.Grids.{Grids}
+use Rattle.strengths.specs.Calls.{untrueKind}
+use Rattle.strengths.specs.declared.kinds.Flagged.{Flagged}
+use Rattle.strengths.specs.declared.kinds.MbKind.{MbKind}
+use Rattle.strengths.specs.declared.kinds.MbKind.the-variants.{Intra, Skip, InterUniform, Inter}
+use Rattle.strengths.specs.declared.kinds.Plain.{Plain}
+use Rattle.strengths.specs.declared.kinds.Request.{Request}
+
+-- a picture's sides
+abbrev pub size : ℕ → ℕ → Size
+size w h = record { w = w; h = h }
+
+-- the three offsets
+abbrev pub offsets : ℤ → ℤ → ℤ → Offsets
+offsets a b c = record { a = a; b = b; chroma = c }
+
+-- a flag is set by any number but 0
+abbrev pub set : ℕ → Bool
+set n = not (eqb n 0)
+
+-- one macroblock with its transform flag
+abbrev pub plain : ℕ → ℕ → ℕ → Plain
+plain x y t8 = record { x = x; y = y; t8 = set t8 }
+
+-- .. with its three flags
+abbrev pub flagged : ℕ → ℕ → ℕ → ℕ → ℕ → Flagged
+flagged x y flat uniform t8 = record { x = x; y = y; flat = set flat; uniform = set uniform; t8 = set t8 }
+
+-- .. with its kind
+abbrev pub request : ℕ → ℕ → MbKind → Request
+request x y kind = record { x = x; y = y; kind = kind }
+
+-- the kind that a number up to 3 stands for
+abbrev pub kindNumber : ℕ → MbKind
+kindNumber k = cond (eqb k 0) Intra (cond (eqb k 1) Skip (cond (eqb k 2) InterUniform Inter))
+
+-- 12: a number above 3 is a kind that is true of no grids
+abbrev pub untrueNumber : Size → ℕ → ℕ → ℕ → Grids → Bool
+untrueNumber z x y k g = ltb 3 k || untrueKind z (request x y (kindNumber k)) g

@@ -1,0 +1,166 @@
+//! Random requests to which no refusal applies (a visit or an untrue kind may still be refused, as the table says).
+
+use crate::request::{Call, Request};
+use inputs::{strengths, texture, Content, Rng, Texture};
+
+/// A size of at most `area` macroblocks; long thin pictures come up often.
+pub fn size(r: &mut Rng, area: usize) -> (usize, usize) {
+    let side = area.min(256);
+    let w = 1 + r.below(side);
+    let w = if r.once_in(2) { 1 + r.below(w) } else { w };
+    let h = 1 + r.below((area / w).clamp(1, 256));
+    if r.once_in(2) {
+        (w, h)
+    } else {
+        (h, w)
+    }
+}
+
+/// A filtering call on a picture of any content, for random rows or a random macroblock.
+pub fn picture(r: &mut Rng, call: Call, w: usize, h: usize) -> Request {
+    let n = w * h;
+    let mut q = Request::new(call, w, h);
+    (q.x, q.y) = (r.below(w), r.below(h));
+    q.first = r.below(h + 1);
+    q.last = q.first + r.below(h - q.first + 1);
+    let look = look(r);
+    q.luma = texture(r, 16 * w, 16 * h, look).into();
+    q.u = texture(r, 8 * w, 8 * h, look).into();
+    q.v = texture(r, 8 * w, 8 * h, look).into();
+    let content =
+        r.pick(&[Content::Intra, Content::Mixed, Content::Still, Content::Wild, Content::Wild, Content::Wild]);
+    q.strengths = strengths(r, n, content).into();
+    q.qps = qps(r, n).into();
+    q.t8s = match r.below(4) {
+        0 => Vec::new(),
+        1 => vec![1; n],
+        _ => (0..n).map(|_| r.below(2) as u8).collect(),
+    }
+    .into();
+    q.offsets = match r.below(3) {
+        0 => [0; 3],
+        1 => [r.pick(&[-12, 12, 0]), r.pick(&[-12, 12, 0]), r.pick(&[-12, 12, 0])],
+        _ => [r.within(-12, 12), r.within(-12, 12), r.within(-12, 12)],
+    };
+    if call == Call::Visit {
+        q.marks = (0..n).map(|_| !r.once_in(6) as u8).collect::<Vec<u8>>().into();
+        let at = q.at();
+        q.marks[at] = r.once_in(8) as u8;
+    }
+    q
+}
+
+/// Flat, blocky, noisy and saturated planes.
+fn look(r: &mut Rng) -> Texture {
+    let base = r.pick(&[0, 2, 60, 128, 128, 190, 253, 255]);
+    match r.below(5) {
+        0 => Texture { step: 0, noise: 0, base },
+        1 => Texture { step: r.within(1, 5), noise: 0, base },
+        2 => Texture { step: r.within(1, 9), noise: r.within(0, 2), base },
+        3 => Texture { step: r.within(5, 40), noise: r.within(0, 12), base },
+        _ => Texture { step: 255, noise: r.within(0, 255), base },
+    }
+}
+
+fn qps(r: &mut Rng, n: usize) -> Vec<u8> {
+    let (low, high) = match r.below(4) {
+        0 => (0, 51),
+        1 => (28, 51),
+        2 => {
+            let low = r.within(0, 51);
+            (low, r.within(low, 51))
+        }
+        _ => (51, 51),
+    };
+    (0..n).map(|_| r.within(low, high) as u8).collect()
+}
+
+/// A strength call on grids of mixed macroblocks, asked with what is true most of the time.
+pub fn grids(r: &mut Rng, call: Call, w: usize, h: usize) -> Request {
+    let n = 16 * w * h;
+    let mut q = Request::new(call, w, h);
+    let list_1 = r.once_in(2);
+    q.inter = vec![0; n].into();
+    q.nnz = vec![0; n].into();
+    q.ref0 = vec![0; n].into();
+    q.mv0 = vec![0; 2 * n].into();
+    q.ref1 = vec![0; if list_1 { n } else { 0 }].into();
+    q.mv1 = vec![0; if list_1 { 2 * n } else { 0 }].into();
+    // what was there before is not read: any bytes will do
+    q.strengths = (0..2 * n).map(|_| r.bits() as u8).collect::<Vec<u8>>().into();
+    let motions = Motions::new(r);
+    for m in 0..w * h {
+        (q.x, q.y) = (m % w, m / w);
+        macroblock(r, &mut q, &motions);
+    }
+    place(r, &mut q);
+    q
+}
+
+/// Another macroblock, and other flags, of the same grids.
+pub fn place(r: &mut Rng, q: &mut Request) {
+    (q.x, q.y) = (r.below(q.w), r.below(q.h));
+    q.t8 = r.pick(&[0, 0, 1, 255]);
+    q.flat = r.pick(&[0, 0, 1, 128]);
+    q.uniform = r.pick(&[0, 0, 1, 2]);
+    let mut is_true = |kind: &u8| {
+        q.kind = *kind;
+        crate::table::answer(q) == 0
+    };
+    let truths: Vec<u8> = (0..4).filter(|kind| is_true(kind)).collect();
+    q.kind = if truths.is_empty() || r.once_in(8) { r.below(4) as u8 } else { r.pick(&truths) };
+}
+
+/// The references and vectors of a picture: few, so that equal and nearly equal ones meet.
+struct Motions {
+    refs: Vec<i8>,
+    parts: Vec<i16>,
+}
+
+impl Motions {
+    fn new(r: &mut Rng) -> Motions {
+        let base = r.pick(&[0, 0, 7, -100, i16::MAX - 4, i16::MIN + 4]);
+        let steps = [-4, -3, 0, 0, 0, 3, 4];
+        let mut parts: Vec<i16> = steps.iter().map(|s| base + s).collect();
+        if r.once_in(3) {
+            parts.extend([i16::MIN, i16::MAX, -1, 1, 32, -32]);
+        }
+        let refs = r.pick(&[&[-1, 0][..], &[0, 1], &[-1, 0, 1], &[5, 7], &[-1, 0, 1, 63, 126, 127], &[-1]]);
+        Motions { refs: refs.to_vec(), parts }
+    }
+
+    fn block(&self, r: &mut Rng) -> (i8, i16, i16) {
+        (r.pick(&self.refs), r.pick(&self.parts), r.pick(&self.parts))
+    }
+}
+
+/// Fills macroblock (x, y): intra, flat, uniform, in halves or quarters, or every block on its own.
+fn macroblock(r: &mut Rng, q: &mut Request, motions: &Motions) {
+    let shape = r.below(7);
+    let counts = r.below(4);
+    let parts: Vec<_> = (0..16).map(|_| (motions.block(r), motions.block(r))).collect();
+    for i in 0..16 {
+        let (bx, by) = (i % 4, i / 4);
+        let part = match shape {
+            0..=2 => 0,
+            3 => bx / 2,
+            4 => by / 2,
+            5 => bx / 2 + 2 * (by / 2),
+            _ => i,
+        };
+        let (list_0, list_1) = parts[part];
+        let b = (4 * q.y + by) * 4 * q.w + 4 * q.x + bx;
+        q.inter[b] = (shape != 0) as u8;
+        q.nnz[b] = match counts {
+            0 => 0,
+            1 => r.pick(&[0, 0, 0, 1]),
+            2 => r.bits() as u8,
+            _ if shape == 1 => 0,
+            _ => r.pick(&[0, 255]),
+        };
+        (q.ref0[b], q.mv0[2 * b], q.mv0[2 * b + 1]) = list_0;
+        if !q.ref1.is_empty() {
+            (q.ref1[b], q.mv1[2 * b], q.mv1[2 * b + 1]) = list_1;
+        }
+    }
+}

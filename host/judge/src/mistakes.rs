@@ -1,0 +1,100 @@
+//! Wrong filters, and how many of them the comparison catches.
+
+use crate::model::Model;
+use crate::rounds::{self, Depth};
+use crate::session::{Outcome, Session};
+use crate::small;
+
+/// Declares the mistakes with what each of them does.
+macro_rules! mistakes {
+    ($($name:ident $words:literal)*) => {
+        #[derive(Clone, Copy, PartialEq, Eq, Debug)]
+        pub enum Mistake { $($name),* }
+        const MISTAKES: &[(Mistake, &str)] = &[$((Mistake::$name, $words)),*];
+    };
+}
+
+mistakes! {
+    RoundsTowardZero "delta is divided by 8 toward 0"
+    NoRounding "delta without the 4"
+    HalvesTowardZero "p1 and q1 halve a negative number toward 0"
+    Q1FromNewP0 "q1 from the new p0"
+    Q1FromBothNew "q1 from the new p0 and the new q0 (shows only where a sample was clipped)"
+    TcWithoutSides "tc is tc0 on luma"
+    ChromaTc0 "tc is tc0 on chroma"
+    NearTestsP1 "p1 and q1 in the place of p2 and q2 in the side tests"
+    AlphaReached "a difference of alpha is filtered"
+    StrongMargin "the strong test adds 1, not 2"
+    P3AsP2 "p2 in the place of p3 at strength 4"
+    BetaByIndexA "beta by index A"
+    Tc0ByIndexB "tc0 by index B"
+    AverageRoundsDown "QPs are averaged down"
+    AveragesBeforeMapping "chroma QPs are averaged before mapping"
+    ChromaOffsetIgnored "no chroma offset"
+    LeftQpAbove "the left QP on the upper edge"
+    BorderFiltered "the picture's left border is filtered"
+    FlagIgnored "the 8x8 flag skips nothing"
+    FlagSkipsChroma "the 8x8 flag skips the chroma edge at 4"
+    ChromaSegmentsOfFour "four chroma lines a segment"
+    MixedFourSkipped "strength 4 of a mixed edge is skipped, as in the accel build"
+    HorizontalFirst "horizontal edges before vertical ones"
+    RightToLeft "each row from right to left"
+    UvExchanged "U and V exchanged"
+    PlanesUntouched "whole pictures are left as they are"
+    ConstantStrengths "every strength is 1"
+    DirectionsExchanged "horizontal strengths before vertical ones"
+    OuterIntraThree "3 on outer intra edges"
+    OwnCountAlone "the neighbour's coefficients do not count"
+    ListOneIgnored "list 1 is not looked at"
+    NoCrossedPairing "references are compared list by list"
+    NoCrossedForEqual "equal references within a block allow one pairing"
+    FarFromFive "far from a difference of 5 on"
+    FarOneSided "far on one side of 0 only"
+    VerticalIgnored "far on x only"
+    VectorsWrap "vector differences wrap at 16 bits"
+    FlagKeepsStrengths "inner strengths are kept under 8x8"
+    NoUpperRight "ready without the upper right neighbour: the old release"
+    MarkForgotten "a visit sets no mark"
+    MarksWhenNotReady "a visit that is not ready sets its mark"
+    FiltersFirstVisitOnly "filters on the first visit and afterwards only sets marks"
+    RefusesAlways "every call is refused"
+    MarkBeforeStrength "13 before 9"
+    QpBeforeFlag "8 before 7"
+    EmptyRangeRefused "an empty row range is refused"
+    RowAboveUnread "the QPs above a row range are not checked"
+    AllQpsRead "a visit checks all QPs"
+    OddOffsetRefused "odd offsets are refused"
+    EmptyListOneRefused "empty list 1 grids are refused"
+    FlatNeedsUniform "flat alone is refused"
+}
+
+/// Runs the faultless model, which must pass, and every wrong one, which must not. True if all is so.
+pub fn run() -> bool {
+    if let Err(failure) = trial(None) {
+        println!("the model without a mistake is not equal to the Rust original: the judge is at fault\n{failure}");
+        return false;
+    }
+    println!("the rules as a plain program, without a mistake: equal to the Rust original");
+    let mut missed = 0;
+    for (mistake, words) in MISTAKES {
+        match trial(Some(*mistake)) {
+            Err(failure) => {
+                let how = failure.0.lines().next().unwrap_or_default();
+                println!("caught  {words}  ({how})");
+            }
+            Ok(()) => {
+                missed += 1;
+                println!("MISSED  {words}");
+            }
+        }
+    }
+    println!("{} wrong filters, {} caught", MISTAKES.len(), MISTAKES.len() - missed);
+    missed == 0
+}
+
+fn trial(mistake: Option<Mistake>) -> Outcome {
+    let model = Model { mistake };
+    let mut s = Session::new(&model, mistake.is_none());
+    (1..=8).try_for_each(|seed| rounds::round(&mut s, seed, Depth::Brief))?;
+    small::run(&mut s, 16)
+}

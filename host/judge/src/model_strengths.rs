@@ -1,0 +1,89 @@
+//! The model's strengths: clause 8.7.2.1 as document 01 words it.
+
+use crate::mistakes::Mistake;
+use crate::model::Model;
+use crate::request::{Call, Request};
+
+/// The used references of a block with their vectors.
+type Used = Vec<(i32, [i32; 2])>;
+
+impl Model {
+    pub fn strengths(&self, r: &mut Request) {
+        let t8 = r.call != Call::Kind && r.t8 != 0;
+        let mut own = [0; 32];
+        for horizontal in [false, true] {
+            for edge in 0..4 {
+                let border = edge == 0 && if horizontal { r.y == 0 } else { r.x == 0 };
+                let t8_skips = t8 && edge % 2 == 1 && !self.has(Mistake::FlagKeepsStrengths);
+                if border || t8_skips {
+                    continue;
+                }
+                for segment in 0..4 {
+                    let (bx, by) = if horizontal { (segment, edge) } else { (edge, segment) };
+                    let q = (4 * r.y + by) * 4 * r.w + 4 * r.x + bx;
+                    let p = if horizontal { q - 4 * r.w } else { q - 1 };
+                    own[16 * horizontal as usize + 4 * edge + segment] = self.strength(r, p, q, edge == 0);
+                }
+            }
+        }
+        if self.has(Mistake::ConstantStrengths) {
+            own = [1; 32];
+        }
+        if self.has(Mistake::DirectionsExchanged) {
+            own.rotate_left(16);
+        }
+        let at = 32 * r.at();
+        r.strengths[at..at + 32].copy_from_slice(&own);
+    }
+
+    fn strength(&self, r: &Request, p: usize, q: usize, outer: bool) -> u8 {
+        let outer = outer && !self.has(Mistake::OuterIntraThree);
+        if r.inter[p] == 0 || r.inter[q] == 0 {
+            return if outer { 4 } else { 3 };
+        }
+        let counts = if self.has(Mistake::OwnCountAlone) { r.nnz[q] != 0 } else { r.nnz[p] != 0 || r.nnz[q] != 0 };
+        if counts {
+            return 2;
+        }
+        self.differs(&self.used(r, p), &self.used(r, q)) as u8
+    }
+
+    fn used(&self, r: &Request, i: usize) -> Used {
+        let mut used = Used::new();
+        if r.ref0[i] >= 0 {
+            used.push((r.ref0[i].into(), [r.mv0[2 * i].into(), r.mv0[2 * i + 1].into()]));
+        }
+        if !r.ref1.is_empty() && r.ref1[i] >= 0 && !self.has(Mistake::ListOneIgnored) {
+            used.push((r.ref1[i].into(), [r.mv1[2 * i].into(), r.mv1[2 * i + 1].into()]));
+        }
+        used
+    }
+
+    fn differs(&self, p: &Used, q: &Used) -> bool {
+        if p.len() != q.len() {
+            return true;
+        }
+        let matches = |a: &(i32, [i32; 2]), b: &(i32, [i32; 2])| a.0 == b.0 && self.near(a.1, b.1);
+        match (&p[..], &q[..]) {
+            ([a], [b]) => !matches(a, b),
+            ([a, b], [c, d]) => {
+                let direct = matches(a, c) && matches(b, d);
+                let crossed = matches(a, d) && matches(b, c) && !self.has(Mistake::NoCrossedPairing);
+                let crossed = crossed && !(self.has(Mistake::NoCrossedForEqual) && a.0 == b.0);
+                !(direct || crossed)
+            }
+            _ => false,
+        }
+    }
+
+    fn near(&self, a: [i32; 2], b: [i32; 2]) -> bool {
+        let limit = if self.has(Mistake::FarFromFive) { 4 } else { 3 };
+        let far = |i: usize| {
+            let d = a[i] - b[i];
+            let d = if self.has(Mistake::VectorsWrap) { i32::from(d as i16) } else { d };
+            let d = if self.has(Mistake::FarOneSided) { d.max(-3) } else { d };
+            d < -limit || d > limit
+        };
+        !far(0) && (self.has(Mistake::VerticalIgnored) || !far(1))
+    }
+}

@@ -1,0 +1,153 @@
+//! Damaged requests: every check alone and in pairs, in the order of document 01's table.
+
+use crate::make;
+use crate::request::{Buffer, Call, Lent, Request, CALLS};
+use crate::session::{Outcome, Session};
+use inputs::Rng;
+
+/// A way to spoil a request, at random places: read or not, the table says which.
+type Damage = fn(&mut Rng, &mut Request);
+
+/// Each with the number that it calls forth, in some call and at some place.
+const DAMAGES: [(u32, Damage); 25] = [
+    (1, |r, q| q.w = r.pick(&HUGE)),
+    (1, |r, q| q.h = r.pick(&HUGE)),
+    (1, |r, q| (q.w, q.h) = r.pick(&[(256, 145), (145, 256), (256, 256), (193, 192), (1 << 32, 1 << 32)])),
+    (2, |r, q| q.x = r.pick(&[q.w, q.w.wrapping_add(1), usize::MAX, 1 << 60])),
+    (2, |r, q| q.y = r.pick(&[q.h, q.h.wrapping_add(1), usize::MAX, 1 << 60])),
+    (2, |r, q| q.last = r.pick(&[q.h.wrapping_add(1), usize::MAX, 0])),
+    (2, |r, q| q.first = r.pick(&[q.last.wrapping_add(1), usize::MAX, q.h, q.h.wrapping_add(1)])),
+    (3, |r, q| spoil_length(r, &mut q.luma)),
+    (3, |r, q| if r.once_in(2) { spoil_length(r, &mut q.u) } else { spoil_length(r, &mut q.v) }),
+    (4, |r, q| spoil_length(r, &mut q.strengths)),
+    (4, |r, q| spoil_length(r, &mut q.qps)),
+    (4, |r, q| spoil_length(r, &mut q.t8s)),
+    (4, |r, q| spoil_length(r, &mut q.marks)),
+    (5, |r, q| if r.once_in(2) { spoil_length(r, &mut q.inter) } else { spoil_length(r, &mut q.nnz) }),
+    (5, |r, q| if r.once_in(2) { spoil_length(r, &mut q.ref0) } else { spoil_length(r, &mut q.mv0) }),
+    (5, |r, q| if r.once_in(2) { spoil_length(r, &mut q.ref1) } else { spoil_length(r, &mut q.mv1) }),
+    (6, |r, q| q.offsets[r.below(3)] = r.pick(&[-13, 13, i32::MIN, i32::MAX, 255, -256])),
+    (7, |r, q| {
+        let value = r.pick(&[2, 3, 128, 255]);
+        match q.call {
+            Call::Visit if r.once_in(2) => spoil_near(r, q, |q| &mut q.marks, value),
+            Call::Frame | Call::Rows | Call::Visit => spoil_near(r, q, |q| &mut q.t8s, value),
+            _ => spoil_near(r, q, |q| &mut q.inter, value),
+        }
+    }),
+    (8, |r, q| {
+        let value = r.pick(&[52, 53, 128, 255]);
+        spoil_near(r, q, |q| &mut q.qps, value)
+    }),
+    (9, |r, q| {
+        let value = r.pick(&[5, 6, 128, 255]);
+        spoil_near(r, q, |q| &mut q.strengths, value)
+    }),
+    (10, |r, q| {
+        let value = r.pick(&[-2, -3, -128]);
+        if r.once_in(2) {
+            spoil_near(r, q, |q| &mut q.ref0, value)
+        } else {
+            spoil_near(r, q, |q| &mut q.ref1, value)
+        }
+    }),
+    (11, |r, q| {
+        let value = r.below(2) as u8;
+        spoil_near(r, q, |q| &mut q.inter, value)
+    }),
+    (12, |r, q| {
+        q.kind = r.pick(&[0, 1, 2, 3, 4, 5, 255]);
+        (q.flat, q.uniform) = (r.pick(&[0, 1, 255]), r.pick(&[0, 1, 255]));
+    }),
+    (13, |r, q| spoil_near(r, q, |q| &mut q.marks, 1)),
+    (14, |r, q| spoil_near(r, q, |q| &mut q.marks, 0)),
+];
+
+/// Sides that are too large, whose products and sums overflow.
+const HUGE: [usize; 8] = [0, 257, usize::MAX, 1 << 63, (1 << 63) + 1, 1 << 32, 1 << 56, usize::MAX / 32 + 2];
+
+/// One good request of each call, spoiled once and twice in every combination.
+pub fn every_pair(s: &mut Session, r: &mut Rng, area: usize) -> Outcome {
+    for call in CALLS {
+        let good = good(r, call, area);
+        s.check("refusals", &good)?;
+        for (i, (_, first)) in DAMAGES.iter().enumerate() {
+            let mut once = good.clone();
+            first(r, &mut once);
+            s.check("refusals", &once)?;
+            for (_, second) in &DAMAGES[i..] {
+                let mut twice = once.clone();
+                second(r, &mut twice);
+                s.check("refusals", &twice)?;
+            }
+        }
+    }
+    Ok(())
+}
+
+/// A small random request, spoiled up to three times: quick, so that there are many.
+pub fn spoiled(s: &mut Session, r: &mut Rng) -> Outcome {
+    let call = r.pick(&CALLS);
+    let mut q = good(r, call, 6);
+    for _ in 0..r.below(4) {
+        r.pick(&DAMAGES).1(r, &mut q);
+    }
+    s.check("refusals", &q)
+}
+
+fn good(r: &mut Rng, call: Call, area: usize) -> Request {
+    let (w, h) = make::size(r, area);
+    if call.is_strengths() {
+        return make::grids(r, call, w, h);
+    }
+    let mut q = make::picture(r, call, w, h);
+    if call == Call::Visit {
+        // ready: everything before it in raster order is marked, and what follows may be
+        let at = q.at();
+        q.marks[..at].fill(1);
+        q.marks[at] = 0;
+    }
+    q
+}
+
+/// One short, one long, empty, twice as long.
+fn spoil_length<T: Lent + Default>(r: &mut Rng, b: &mut Buffer<T>) {
+    let len = b.len();
+    let other = r.pick(&[len.saturating_sub(1), len + 1, 0, 2 * len, len / 2]);
+    b.resize(other, T::default());
+}
+
+/// Changes one entry of a buffer: of this macroblock, of one beside it, or anywhere.
+fn spoil_near<T: Lent>(r: &mut Rng, q: &mut Request, field: fn(&mut Request) -> &mut Buffer<T>, value: T) {
+    let (w, n) = (q.w.clamp(1, 256), q.w.saturating_mul(q.h).max(1));
+    let at = q.y.saturating_mul(w).saturating_add(q.x);
+    let b = field(q);
+    if b.is_empty() {
+        return;
+    }
+    // entries of one macroblock are together in all grids but the 4x4 ones, where "anywhere" must do
+    let each = (b.len() / n).max(1);
+    let near = [at, at, at.wrapping_sub(1), at.wrapping_sub(w), at.wrapping_sub(w).wrapping_add(1)];
+    let place = r.pick(&near).wrapping_mul(each).wrapping_add(r.below(each));
+    let place = if place < b.len() && !r.once_in(4) { place } else { r.below(b.len()) };
+    b[place] = value;
+}
+
+#[cfg(test)]
+mod tests {
+    use super::*;
+
+    #[test]
+    fn every_damage_calls_its_number_forth() {
+        let mut r = Rng::new(2);
+        for (i, (number, damage)) in DAMAGES.iter().enumerate() {
+            let mut hits = |call: Call| {
+                let mut q = good(&mut r, call, 6);
+                let before = crate::table::answer(&q);
+                damage(&mut r, &mut q);
+                before == 0 && crate::table::answer(&q) == *number
+            };
+            assert!((0..200).any(|_| CALLS.into_iter().any(&mut hits)), "damage {i} never gives {number}");
+        }
+    }
+}

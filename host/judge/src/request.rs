@@ -1,0 +1,185 @@
+//! One call with everything that is lent to it.
+
+use std::ops::{Deref, DerefMut};
+
+/// The six calls of the archive.
+#[derive(Clone, Copy, PartialEq, Eq, Debug)]
+pub enum Call {
+    Kind,
+    Flags,
+    Flagless,
+    Frame,
+    Rows,
+    Visit,
+}
+
+pub const CALLS: [Call; 6] = [Call::Kind, Call::Flags, Call::Flagless, Call::Frame, Call::Rows, Call::Visit];
+
+impl Call {
+    /// Whether the call is lent the 4x4 grids and writes strengths; the others are lent planes and read strengths.
+    pub fn is_strengths(self) -> bool {
+        matches!(self, Call::Kind | Call::Flags | Call::Flagless)
+    }
+}
+
+/// A call and its arguments. What the call does not take stays empty or 0.
+#[derive(Clone, PartialEq)]
+pub struct Request {
+    pub call: Call,
+    pub w: usize,
+    pub h: usize,
+    /// The macroblock of a strength call or a visit.
+    pub x: usize,
+    pub y: usize,
+    /// The rows of a row call.
+    pub first: usize,
+    pub last: usize,
+    pub kind: u8,
+    pub flat: u8,
+    pub uniform: u8,
+    pub t8: u8,
+    /// A, B, chroma.
+    pub offsets: [i32; 3],
+    pub inter: Buffer<u8>,
+    pub nnz: Buffer<u8>,
+    pub ref0: Buffer<i8>,
+    pub mv0: Buffer<i16>,
+    pub ref1: Buffer<i8>,
+    pub mv1: Buffer<i16>,
+    pub strengths: Buffer<u8>,
+    pub luma: Buffer<u8>,
+    pub u: Buffer<u8>,
+    pub v: Buffer<u8>,
+    pub qps: Buffer<u8>,
+    pub t8s: Buffer<u8>,
+    pub marks: Buffer<u8>,
+}
+
+impl Request {
+    pub fn new(call: Call, w: usize, h: usize) -> Request {
+        Request {
+            call,
+            w,
+            h,
+            x: 0,
+            y: 0,
+            first: 0,
+            last: 0,
+            kind: 0,
+            flat: 0,
+            uniform: 0,
+            t8: 0,
+            offsets: [0; 3],
+            inter: Buffer::default(),
+            nnz: Buffer::default(),
+            ref0: Buffer::default(),
+            mv0: Buffer::default(),
+            ref1: Buffer::default(),
+            mv1: Buffer::default(),
+            strengths: Buffer::default(),
+            luma: Buffer::default(),
+            u: Buffer::default(),
+            v: Buffer::default(),
+            qps: Buffer::default(),
+            t8s: Buffer::default(),
+            marks: Buffer::default(),
+        }
+    }
+
+    /// The number of the request's macroblock in raster order.
+    pub fn at(&self) -> usize {
+        self.y * self.w + self.x
+    }
+
+    /// The first thing that differs between two requests, in words.
+    pub fn difference(&self, other: &Request) -> Option<String> {
+        differs("inter", &self.inter, &other.inter)
+            .or_else(|| differs("nnz", &self.nnz, &other.nnz))
+            .or_else(|| differs("ref0", &self.ref0, &other.ref0))
+            .or_else(|| differs("mv0", &self.mv0, &other.mv0))
+            .or_else(|| differs("ref1", &self.ref1, &other.ref1))
+            .or_else(|| differs("mv1", &self.mv1, &other.mv1))
+            .or_else(|| differs("strengths", &self.strengths, &other.strengths))
+            .or_else(|| differs("y", &self.luma, &other.luma))
+            .or_else(|| differs("u", &self.u, &other.u))
+            .or_else(|| differs("v", &self.v, &other.v))
+            .or_else(|| differs("qps", &self.qps, &other.qps))
+            .or_else(|| differs("t8s", &self.t8s, &other.t8s))
+            .or_else(|| differs("marks", &self.marks, &other.marks))
+    }
+}
+
+fn differs<T: Lent>(name: &str, got: &Buffer<T>, want: &Buffer<T>) -> Option<String> {
+    if got.all == want.all {
+        return None; // the usual case, and much quicker than looking for a place
+    }
+    let i = got.all.iter().zip(&want.all).position(|(a, b)| a != b)?;
+    let (a, b) = (got.all[i], want.all[i]);
+    let place = match i.checked_sub(GUARD) {
+        None => "in the guard before it".to_string(),
+        Some(i) if i >= got.len() => "in the guard after it".to_string(),
+        Some(i) => format!("at {i}"),
+    };
+    Some(format!("{name} {place}: {a:?} instead of {b:?}"))
+}
+
+/// Guard elements on each side of a buffer.
+const GUARD: usize = 64;
+
+/// The element types that are lent, each with the value of its guards.
+pub trait Lent: Copy + PartialEq + std::fmt::Debug {
+    const GUARD: Self;
+}
+impl Lent for u8 {
+    const GUARD: u8 = 0xA5;
+}
+impl Lent for i8 {
+    const GUARD: i8 = -0x5B;
+}
+impl Lent for i16 {
+    const GUARD: i16 = -0x5A5B;
+}
+
+/// Lent memory between guards. Comparing two buffers compares their guards too, so a byte written beside a buffer shows.
+#[derive(Clone, PartialEq)]
+pub struct Buffer<T> {
+    all: Vec<T>,
+}
+
+impl<T: Lent> Buffer<T> {
+    pub fn resize(&mut self, len: usize, fill: T) {
+        let mut content = self.to_vec();
+        content.resize(len, fill);
+        *self = content.into();
+    }
+}
+
+impl<T: Lent> From<Vec<T>> for Buffer<T> {
+    fn from(content: Vec<T>) -> Self {
+        let mut all = Vec::with_capacity(content.len() + 2 * GUARD);
+        all.resize(GUARD, T::GUARD);
+        all.extend(content);
+        all.resize(all.len() + GUARD, T::GUARD);
+        Buffer { all }
+    }
+}
+
+impl<T: Lent> Default for Buffer<T> {
+    fn default() -> Self {
+        Vec::new().into()
+    }
+}
+
+impl<T> Deref for Buffer<T> {
+    type Target = [T];
+    fn deref(&self) -> &[T] {
+        &self.all[GUARD..self.all.len() - GUARD]
+    }
+}
+
+impl<T> DerefMut for Buffer<T> {
+    fn deref_mut(&mut self) -> &mut [T] {
+        let end = self.all.len() - GUARD;
+        &mut self.all[GUARD..end]
+    }
+}

@@ -1,0 +1,205 @@
+//! From a case that fails to one that a person can read: smaller sizes, then plainer contents, as long as it fails.
+
+use crate::request::{Buffer, Call, Lent, Request};
+use std::fmt::{Debug, Write};
+use std::time::{Duration, Instant};
+
+/// How long to look for a smaller case.
+const PATIENCE: Duration = Duration::from_secs(10);
+
+/// The smallest case found that still fails.
+pub fn smallest(r: &Request, fails: impl Fn(&Request) -> bool) -> Request {
+    let end = Instant::now() + PATIENCE;
+    let mut best = r.clone();
+    while let Some(smaller) = crops(&best).into_iter().find(|c| Instant::now() < end && fails(c)) {
+        best = smaller;
+    }
+    plain_numbers(&mut best, &fails);
+    let mut keep = |r: &Request| Instant::now() < end && fails(r);
+    plain(&mut best, |r| &mut r.t8s, 0, &mut keep);
+    plain(&mut best, |r| &mut r.nnz, 0, &mut keep);
+    plain(&mut best, |r| &mut r.mv1, 0, &mut keep);
+    plain(&mut best, |r| &mut r.mv0, 0, &mut keep);
+    plain(&mut best, |r| &mut r.ref1, -1, &mut keep);
+    plain(&mut best, |r| &mut r.ref0, 0, &mut keep);
+    plain(&mut best, |r| &mut r.inter, 1, &mut keep);
+    plain(&mut best, |r| &mut r.strengths, 0, &mut keep);
+    plain(&mut best, |r| &mut r.marks, 0, &mut keep);
+    plain(&mut best, |r| &mut r.qps, 30, &mut keep);
+    plain(&mut best, |r| &mut r.u, 100, &mut keep);
+    plain(&mut best, |r| &mut r.v, 100, &mut keep);
+    plain(&mut best, |r| &mut r.luma, 100, &mut keep);
+    best
+}
+
+/// The case with a half or one column or row of macroblocks less, where its lengths are those of its size.
+fn crops(r: &Request) -> Vec<Request> {
+    let (w, h) = (r.w, r.h);
+    if !(1..=256).contains(&w) || !(1..=256).contains(&h) {
+        return Vec::new();
+    }
+    let parts = [
+        (0, w / 2, 0, h),
+        (w / 2, w, 0, h),
+        (0, w, 0, h / 2),
+        (0, w, h / 2, h),
+        (1, w, 0, h),
+        (0, w - 1, 0, h),
+        (0, w, 1, h),
+        (0, w, 0, h - 1),
+    ];
+    parts.into_iter().filter_map(|(x0, x1, y0, y1)| crop(r, [x0, x1, y0, y1])).collect()
+}
+
+fn crop(r: &Request, part: [usize; 4]) -> Option<Request> {
+    let [x0, x1, y0, y1] = part;
+    let (w, h) = (x1 - x0, y1 - y0);
+    if w == 0 || h == 0 || (w, h) == (r.w, r.h) {
+        return None;
+    }
+    let mut c = r.clone();
+    (c.w, c.h) = (w, h);
+    let has_place = !matches!(r.call, Call::Frame | Call::Rows);
+    let shifted = |at: usize, from: usize| if has_place { at.checked_sub(from) } else { Some(0) };
+    (c.x, c.y) = (shifted(r.x, x0)?, shifted(r.y, y0)?);
+    c.first = r.first.saturating_sub(y0).min(h);
+    c.last = r.last.saturating_sub(y0).min(h);
+    let old = r.w;
+    cut(&mut c.inter, old, r.h, (4, 4), part)?;
+    cut(&mut c.nnz, old, r.h, (4, 4), part)?;
+    cut(&mut c.ref0, old, r.h, (4, 4), part)?;
+    cut(&mut c.mv0, old, r.h, (8, 4), part)?;
+    cut(&mut c.ref1, old, r.h, (4, 4), part)?;
+    cut(&mut c.mv1, old, r.h, (8, 4), part)?;
+    cut(&mut c.strengths, old, r.h, (32, 1), part)?;
+    cut(&mut c.luma, old, r.h, (16, 16), part)?;
+    cut(&mut c.u, old, r.h, (8, 8), part)?;
+    cut(&mut c.v, old, r.h, (8, 8), part)?;
+    cut(&mut c.qps, old, r.h, (1, 1), part)?;
+    cut(&mut c.t8s, old, r.h, (1, 1), part)?;
+    cut(&mut c.marks, old, r.h, (1, 1), part)?;
+    Some(c)
+}
+
+/// Keeps the part of a grid with `cell.0` by `cell.1` entries a macroblock.
+fn cut<T: Lent>(b: &mut Buffer<T>, w: usize, h: usize, cell: (usize, usize), part: [usize; 4]) -> Option<()> {
+    let [x0, x1, y0, y1] = part;
+    let row = w * cell.0;
+    if b.is_empty() {
+        return Some(());
+    }
+    if b.len() != row * h * cell.1 {
+        return None;
+    }
+    let kept: Vec<T> =
+        (y0 * cell.1..y1 * cell.1).flat_map(|y| b[y * row + x0 * cell.0..y * row + x1 * cell.0].to_vec()).collect();
+    *b = kept.into();
+    Some(())
+}
+
+fn plain_numbers(best: &mut Request, fails: &impl Fn(&Request) -> bool) {
+    for i in 0..3 {
+        attempt(best, fails, |r| r.offsets[i] = 0);
+    }
+    attempt(best, fails, |r| r.t8 = 0);
+    attempt(best, fails, |r| r.flat = 0);
+    attempt(best, fails, |r| r.uniform = 0);
+    attempt(best, fails, |r| {
+        r.ref1 = Buffer::default();
+        r.mv1 = Buffer::default();
+    });
+    attempt(best, fails, |r| r.t8s = Buffer::default());
+}
+
+fn attempt(best: &mut Request, fails: &impl Fn(&Request) -> bool, change: impl Fn(&mut Request)) {
+    let mut tried = best.clone();
+    change(&mut tried);
+    if fails(&tried) {
+        *best = tried;
+    }
+}
+
+/// Makes runs of entries equal to `value`: all, then halves, quarters, down to single ones.
+fn plain<T: Lent>(
+    best: &mut Request,
+    field: impl Fn(&mut Request) -> &mut Buffer<T>,
+    value: T,
+    keep: &mut impl FnMut(&Request) -> bool,
+) {
+    let len = field(best).len();
+    let mut run = len;
+    while run > 0 {
+        for from in (0..len).step_by(run) {
+            let mut tried = best.clone();
+            let to = len.min(from + run);
+            let part = &mut field(&mut tried)[from..to];
+            if part.iter().any(|v| *v != value) {
+                part.fill(value);
+                if keep(&tried) {
+                    *best = tried;
+                }
+            }
+        }
+        run /= 2;
+    }
+}
+
+/// The case in words: the numbers, and every entry that is not the plain one.
+pub fn describe(r: &Request) -> String {
+    let mut s = format!("{:?} w {} h {}", r.call, r.w, r.h);
+    let mut say = |args: std::fmt::Arguments| s.write_fmt(args).expect("a string takes everything");
+    say(format_args!(" x {} y {} first {} last {}", r.x, r.y, r.first, r.last));
+    say(format_args!(" kind {} flat {} uniform {} t8 {} offsets {:?}", r.kind, r.flat, r.uniform, r.t8, r.offsets));
+    let entries = [
+        entries("inter (else 1)", &r.inter, 1),
+        entries("nnz", &r.nnz, 0),
+        entries("ref0", &r.ref0, 0),
+        entries("mv0", &r.mv0, 0),
+        entries("ref1 (else -1)", &r.ref1, -1),
+        entries("mv1", &r.mv1, 0),
+        entries("strengths", &r.strengths, 0),
+        entries("y (else 100)", &r.luma, 100),
+        entries("u (else 100)", &r.u, 100),
+        entries("v (else 100)", &r.v, 100),
+        entries("qps (else 30)", &r.qps, 30),
+        entries("t8s", &r.t8s, 0),
+        entries("marks", &r.marks, 0),
+    ];
+    s + &entries.concat()
+}
+
+fn entries<T: Lent + Debug>(name: &str, b: &Buffer<T>, plain: T) -> String {
+    let odd: Vec<String> =
+        b.iter().enumerate().filter(|e| *e.1 != plain).map(|(i, v)| format!("[{i}] {v:?}")).collect();
+    match odd.len() {
+        _ if b.is_empty() => String::new(),
+        0..=64 => format!("\n  {name}: length {}, {}", b.len(), odd.join(" ")),
+        n => format!("\n  {name}: length {}, {} .. {} more", b.len(), odd[..64].join(" "), n - 64),
+    }
+}
+
+#[cfg(test)]
+mod tests {
+    use super::*;
+
+    /// A case that fails as long as one strength of the last macroblock is 3 comes down to just that.
+    #[test]
+    fn shrinks_to_what_matters() {
+        let mut q = crate::make::picture(&mut inputs::Rng::new(8), Call::Frame, 5, 4);
+        q.strengths[32 * 19 + 7] = 3;
+        q.offsets = [1, 2, 3];
+        let fails = |r: &Request| r.strengths.len() == 32 * r.w * r.h && r.strengths[32 * (r.w * r.h - 1) + 7] == 3;
+        let small = smallest(&q, fails);
+        assert_eq!((small.w, small.h, small.offsets), (1, 1, [0; 3]));
+        assert_eq!(small.strengths.iter().map(|&s| s as u32).sum::<u32>(), 3);
+        assert!(small.luma.iter().all(|&s| s == 100));
+        assert!(describe(&small).contains("strengths: length 32, [7] 3"));
+    }
+
+    #[test]
+    fn wrong_lengths_are_not_cropped() {
+        let mut q = crate::make::picture(&mut inputs::Rng::new(8), Call::Frame, 5, 4);
+        q.u.resize(7, 0);
+        assert_eq!(smallest(&q, |r| r.u.len() == 7).w, 5);
+    }
+}

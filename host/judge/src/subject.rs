@@ -1,0 +1,57 @@
+//! What is judged: the archive, or a filter that stands in its place.
+
+use crate::fence::{Field, Side};
+use crate::request::{Call, Request};
+use binding::{wire, Grids, Planes, Stored};
+use std::cell::{Cell, RefCell};
+
+pub trait Subject {
+    /// Makes the call on the request's own memory and gives its answer.
+    fn call(&self, r: &mut Request) -> u32;
+}
+
+/// The proved filter. Of three calls one is made between guard elements, two between fences.
+pub struct Archive {
+    turn: Cell<usize>,
+    fields: RefCell<[Field; 13]>,
+}
+
+impl Archive {
+    pub fn new() -> Archive {
+        Archive { turn: Cell::new(0), fields: RefCell::new(std::array::from_fn(|_| Field::new())) }
+    }
+}
+
+impl Subject for Archive {
+    fn call(&self, r: &mut Request) -> u32 {
+        self.turn.set(self.turn.get() + 1);
+        let side = [None, Some(Side::Start), Some(Side::End)][self.turn.get() % 3];
+        let mut fields = self.fields.borrow_mut();
+        let [f0, f1, f2, f3, f4, f5, f6, f7, f8, f9, f10, f11, f12] = &mut *fields;
+        let (inter, nnz) = (f0.lend(&mut r.inter, side), f1.lend(&mut r.nnz, side));
+        let (ref0, mv0) = (f2.lend(&mut r.ref0, side), f3.lend(&mut r.mv0, side));
+        let (ref1, mv1) = (f4.lend(&mut r.ref1, side), f5.lend(&mut r.mv1, side));
+        let mut strengths = f6.lend(&mut r.strengths, side);
+        let mut luma = f7.lend(&mut r.luma, side);
+        let (mut u, mut v) = (f8.lend(&mut r.u, side), f9.lend(&mut r.v, side));
+        let (qps, t8s) = (f10.lend(&mut r.qps, side), f11.lend(&mut r.t8s, side));
+        let mut marks = f12.lend(&mut r.marks, side);
+
+        let (w, h, x, y) = (r.w, r.h, r.x, r.y);
+        let grids = Grids { inter: &inter, nnz: &nnz, ref0: &ref0, mv0: &mv0, ref1: &ref1, mv1: &mv1 };
+        let flags = [r.flat, r.uniform, r.t8];
+        match r.call {
+            Call::Kind => return wire::strengths_kind(w, h, x, y, r.kind, grids, &mut strengths),
+            Call::Flags => return wire::strengths_flags(w, h, x, y, flags, grids, &mut strengths),
+            Call::Flagless => return wire::strengths(w, h, x, y, r.t8, grids, &mut strengths),
+            _ => {}
+        }
+        let planes = Planes { y: &mut luma, u: &mut u, v: &mut v };
+        let stored = Stored { strengths: &strengths, qps: &qps, t8s: &t8s };
+        match r.call {
+            Call::Frame => wire::frame(w, h, r.offsets, planes, stored),
+            Call::Rows => wire::rows(w, h, r.first, r.last, r.offsets, planes, stored),
+            _ => wire::visit(w, h, x, y, r.offsets, planes, stored, &mut marks),
+        }
+    }
+}

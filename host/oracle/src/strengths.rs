@@ -1,0 +1,85 @@
+//! Strengths of one macroblock: `derive_mb_kind`, `derive_mb_bs` and `derive_mb`.
+
+use crate::probed::{self, BlockInfo, MbBs, MbKind};
+
+/// The six 4x4 grids in document 01's layouts; the list 1 grids are both empty or both full.
+#[derive(Clone, Copy)]
+pub struct Grids<'a> {
+    pub inter: &'a [u8],
+    pub nnz: &'a [u8],
+    pub ref0: &'a [i8],
+    pub mv0: &'a [i16],
+    pub ref1: &'a [i8],
+    pub mv1: &'a [i16],
+}
+
+/// The grids in the original's types: converted once, asked for any macroblock.
+pub struct Blocks {
+    width: usize,
+    inter: Vec<bool>,
+    nnz: Vec<u8>,
+    ref0: Vec<i8>,
+    mv0: Vec<(i16, i16)>,
+    ref1: Vec<i8>,
+    mv1: Vec<(i16, i16)>,
+    /// Identity lists: reference r is picture r, and -1 becomes the original's NO_REF.
+    pictures: Vec<i32>,
+}
+
+impl Blocks {
+    pub fn new(width: usize, g: Grids) -> Self {
+        let pairs = |mv: &[i16]| mv.chunks_exact(2).map(|v| (v[0], v[1])).collect();
+        Blocks {
+            width,
+            inter: g.inter.iter().map(|&b| b != 0).collect(),
+            nnz: g.nnz.to_vec(),
+            ref0: g.ref0.to_vec(),
+            mv0: pairs(g.mv0),
+            ref1: g.ref1.to_vec(),
+            mv1: pairs(g.mv1),
+            pictures: (0..128).collect(),
+        }
+    }
+
+    /// Strengths by kind: 0 intra, 1 skip, 2 inter uniform, 3 inter.
+    pub fn by_kind(&self, x: usize, y: usize, kind: u8) -> [u8; 32] {
+        let kind = MbKind::from_u8(kind).expect("one of the four kinds");
+        bytes(probed::derive_mb_kind(&self.info(), x, y, kind))
+    }
+
+    /// Strengths with the flags as given.
+    pub fn by_flags(&self, x: usize, y: usize, flat: bool, uniform: bool, t8: bool) -> [u8; 32] {
+        bytes(probed::probe::derive_flags(&self.info(), x, y, flat, uniform, t8))
+    }
+
+    /// Strengths without flags: the original looks for flat and uniform itself.
+    pub fn flagless(&self, x: usize, y: usize, t8: bool) -> [u8; 32] {
+        bytes(probed::derive_mb(&self.info(), x, y, t8))
+    }
+
+    fn info(&self) -> BlockInfo<'_> {
+        BlockInfo {
+            inter: &self.inter,
+            nnz: &self.nnz,
+            mv: &self.mv0,
+            ref_id: &self.ref0,
+            mv1: &self.mv1,
+            ref_id1: &self.ref1,
+            w4: self.width * 4,
+            t8x8: &[],
+            bs: &[],
+            poc0: &self.pictures,
+            poc1: &self.pictures,
+            kind: &[],
+        }
+    }
+}
+
+/// Vertical edges first, four segments each, then horizontal ones: document 01's 32 bytes.
+fn bytes(m: MbBs) -> [u8; 32] {
+    let mut out = [0; 32];
+    for (to, from) in out.iter_mut().zip(m.v.iter().chain(&m.h).flatten()) {
+        *to = *from;
+    }
+    out
+}

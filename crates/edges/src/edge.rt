@@ -26,7 +26,7 @@ fn tc0(bs: u8, tc1: u8, tc2: u8, tc3: u8) -> u8
     tc3
 }
 
-// Four luma lines of one strength.
+// Four luma lines of one strength. At strength 0 none is touched.
 fn luma_segment(
     plane: &mut [u8],
     at: usize,
@@ -40,6 +40,9 @@ fn luma_segment(
     requires { ⌜ at + 3 * along + 7 * step < length (now plane) ⌝ }
     ensures { λ _. ⌜ now (plane .exit) ≡ upTo 4 (lumaLines (lumaLine 255 bs alpha beta tc) at along step) (now (plane .entry)) ⌝ }
 {
+    if bs == 0 {
+        return;
+    }
     for k in 0..4usize {
         filter_luma_line(plane, at + k * along, step, bs, alpha, beta, tc);
     }

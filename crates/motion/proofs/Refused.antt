@@ -1,15 +1,17 @@
 -- Wrong rules, each shown to differ from the right one at a small input. Assumes nothing.
 use mathlib.Core.Path.{_≡_}
-use mathlib.Core.Bool.{Bool, false, not, _||_, true≢false, false≢true}
+use mathlib.Core.Bool.{Bool, true, false, cond, not, _||_, true≢false, false≢true}
 use mathlib.Core.List.{List, [], _∷_}
 use Prim.Native.Nat.{ℕ}
+use native.Mathlib.Omega.{arith}
 use lib.IntN.{ℤ, pos, negsuc, _-ℤ_}
 use lib.Signed.{ltZ}
 use mir.Syntax.{w16}
 use mir.Val.{toZ, ofZ}
 use Rattle.motion.specs.Cases.{from, none, still, direct, swapped, twice}
 use Rattle.motion.specs.Far.{outside}
-use Rattle.motion.specs.Motion.{first, ifUsed, used, mate, inOrder, references, mismatched, differ}
+use Rattle.motion.specs.Grids.{joined}
+use Rattle.motion.specs.Motion.{first, ifUsed, used, mate, inOrder, references, mismatched, differ, interStrength}
 use Rattle.motion.specs.Sets.{sameSet}
 use Rattle.motion.specs.declared.blocks.Blk.{Blk}
 use Rattle.motion.specs.declared.blocks.Motion.{Motion}
@@ -64,3 +66,11 @@ setsOnly v p q = not (sameSet (references (used p)) (references (used q)))
 pub not-sets-only : setsOnly 3 (twice (pos 0) (pos 8)) (twice (pos 8) (pos 4)) ≡ differ 3 (twice (pos 0) (pos 8)) (twice (pos 8) (pos 4)) → ⊥
 unfolding differ mismatched used outside
 not-sets-only = false≢true
+
+-- one block's coefficients ignored: a still block with some beside one with none
+abbrev oneCount : ℕ → Blk → Blk → ℕ
+oneCount v p q = cond (q .nz) 2 (cond (differ v p q) 1 0)
+
+pub not-one-count : oneCount 3 (joined true true (from 5 (pos 0)) none) (still (from 5 (pos 0)) none) ≡ interStrength 3 (joined true true (from 5 (pos 0)) none) (still (from 5 (pos 0)) none) → ⊥
+unfolding interStrength differ mismatched used outside
+not-one-count e = let k : _≡_ {A = ℕ} 0 2 = e in omega arith

@@ -35,7 +35,20 @@ const HELP: &str = "deblock: the proved H.264 deblocking filter of the survey st
 Exit status: 0 equal, 1 different, 2 cannot read or wrong arguments.
 Recordings are described in data/recordings/FORMAT.md, answers in docs/ and by the numbers of document 01.";
 
+extern "C" {
+    fn signal(number: i32, handler: usize) -> usize;
+}
+
+/// A reader that goes away, such as `head`, ends the program quietly, as it does other tools.
+fn end_with_the_reader() {
+    const SIGPIPE: i32 = 13;
+    const DEFAULT: usize = 0;
+    // SAFETY: no other thread runs yet, and the default action is no function of ours.
+    unsafe { signal(SIGPIPE, DEFAULT) };
+}
+
 fn main() -> ExitCode {
+    end_with_the_reader();
     let words: Vec<String> = std::env::args().skip(1).collect();
     if words.iter().any(|w| w == "--help" || w == "-h") {
         println!("{HELP}");

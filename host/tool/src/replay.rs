@@ -11,7 +11,7 @@ use std::path::Path;
 /// Random orders that are tried where none is given.
 const SEEDS: u64 = 100;
 
-/// Returns whether strengths and planes are the recorder's.
+/// Returns whether strengths and planes are the recorder's; a picture with unvisited macroblocks is not.
 pub fn run(file: &Path, order: Option<&Path>, once: bool) -> Result<bool, Trouble> {
     let recording = Recording::read(file)?;
     let order = order.map(orders::read).transpose()?;
@@ -93,5 +93,5 @@ fn agrees(r: &Recording, end: &Replay) -> bool {
     } else {
         tell(&found);
     }
-    found.is_empty()
+    found.is_empty() && end.unvisited() == 0
 }

@@ -33,7 +33,7 @@ const HELP: &str = "deblock: the proved H.264 deblocking filter of the survey st
       of 16). Says which macroblocks and samples differ and writes the difference as a picture (difference.png).
 
 Exit status: 0 equal, 1 different, 2 cannot read or wrong arguments.
-Recordings are described in data/recordings/FORMAT.md, answers in docs/ and by the numbers of document 01.";
+Recordings are described in crates/recordings/FORMAT.md, answers in docs/ and by the numbers of document 01.";
 
 extern "C" {
     fn signal(number: i32, handler: usize) -> usize;

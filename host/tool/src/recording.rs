@@ -1,4 +1,4 @@
-//! Reads recordings (data/recordings/FORMAT.md), saying where a damaged file is damaged.
+//! Reads recordings (crates/recordings/FORMAT.md), saying where a damaged file is damaged.
 
 use crate::picture::{Picture, Settings};
 use crate::trouble::{self, Trouble};

@@ -1,0 +1,192 @@
+// The grids of a recording, and the strengths that are derived from them.
+ghost use Prim.Native.Nat.{_≤_};
+use crate::bytes::byte_at;
+use crate::bytes::fill;
+use crate::space;
+use edges::Size;
+use strengths::calls::derive_mb;
+use strengths::kinds::Plain;
+
+// A byte that stands for -128 to 127.
+fn signed(b: u8) -> i8 {
+    if b < 128 {
+        return b as i8;
+    }
+    let below = 255 - b;
+    !(below as i8)
+}
+
+// A number of two bytes, the lower one first.
+fn joined(low: u8, high: u8) -> i16 {
+    let all = low as u16 + 256 * (high as u16);
+    if all < 32768 {
+        return all as i16;
+    }
+    let below = 65535 - all;
+    !(below as i16)
+}
+
+fn references(to: &mut [i8], raw: &[u8]) {
+    for i in 0..to.len() {
+        to[i] = signed(byte_at(raw, i));
+    }
+}
+
+fn vectors(to: &mut [i16], raw: &[u8]) {
+    for i in 0..to.len() {
+        to[i] = joined(byte_at(raw, 2 * i), byte_at(raw, 2 * i + 1));
+    }
+}
+
+// One list's references and vectors, by way of two spaces of their sizes in bytes.
+fn list(
+    fd: i32,
+    refs: &mut [i8],
+    mvs: &mut [i16],
+    raw_refs: &mut [u8],
+    raw_mvs: &mut [u8],
+) -> bool {
+    let one = fill(fd, raw_refs);
+    let two = fill(fd, raw_mvs);
+    references(refs, raw_refs);
+    vectors(mvs, raw_mvs);
+    one & two
+}
+
+// The strengths of all macroblocks, and whether no call was refused.
+fn derive<'a>(
+    z: Size,
+    n: usize,
+    inter: &[u8],
+    nnz: &[u8],
+    ref0: &[i8],
+    mv0: &'a [i16],
+    ref1: &[i8],
+    mv1: &'a [i16],
+    s: &mut [u8],
+) -> bool {
+    let mut done = true;
+    for i in 0..n {
+        let x = column(i, z.w);
+        let y = row(i, z.w);
+        let p = Plain { x, y, t8: false };
+        done = done & (derive_mb(z, p, inter, nnz, ref0, mv0, ref1, mv1, s) == 0);
+    }
+    done
+}
+
+pub fn column(i: usize, w: usize) -> usize {
+    if w == 0 {
+        return 0;
+    }
+    i % w
+}
+
+pub fn row(i: usize, w: usize) -> usize {
+    if w == 0 {
+        return 0;
+    }
+    i / w
+}
+
+fn only_if(on: bool, k: usize) -> usize
+    ensures { λ r. ⌜ r ≤ k ⌝ }
+{
+    if on {
+        return k;
+    }
+    0
+}
+
+// What is read, in grids of their true sizes; those of list 1 are empty where it is not recorded.
+fn read(
+    fd: i32,
+    inter: &mut [u8],
+    nnz: &mut [u8],
+    ref0: &mut [i8],
+    mv0: &mut [i16],
+    ref1: &mut [i8],
+    mv1: &mut [i16],
+    raw_refs0: &mut [u8],
+    raw_mvs0: &mut [u8],
+    raw_refs1: &mut [u8],
+    raw_mvs1: &mut [u8],
+) -> bool {
+    let a = fill(fd, inter);
+    let b = fill(fd, nnz);
+    let c = list(fd, ref0, mv0, raw_refs0, raw_mvs0);
+    let d = list(fd, ref1, mv1, raw_refs1, raw_mvs1);
+    a & b & c & d
+}
+
+// .. and the strengths that are derived from it.
+fn read_and_derive(
+    fd: i32,
+    z: Size,
+    n: usize,
+    inter: &mut [u8],
+    nnz: &mut [u8],
+    ref0: &mut [i8],
+    mv0: &mut [i16],
+    ref1: &mut [i8],
+    mv1: &mut [i16],
+    raw_refs0: &mut [u8],
+    raw_mvs0: &mut [u8],
+    raw_refs1: &mut [u8],
+    raw_mvs1: &mut [u8],
+    s: &mut [u8],
+) -> bool {
+    let whole = read(
+        fd,
+        inter,
+        nnz,
+        ref0,
+        mv0,
+        ref1,
+        mv1,
+        raw_refs0,
+        raw_mvs0,
+        raw_refs1,
+        raw_mvs1,
+    );
+    whole & derive(z, n, inter, nnz, ref0, mv0, ref1, mv1, s)
+}
+
+// Reads the grids of at most 120 macroblocks and derives their strengths; false where there are more, the file is too short or a call was refused.
+pub fn strengths_of(fd: i32, z: Size, n: usize, lists: bool, s: &mut [u8]) -> bool {
+    if 120 < n {
+        return false;
+    }
+    let mut inter = space::blocks();
+    let mut nnz = space::blocks();
+    let mut ref0 = space::references();
+    let mut mv0 = space::vectors();
+    let mut ref1 = space::references();
+    let mut mv1 = space::vectors();
+    let mut raw_refs0 = space::blocks();
+    let mut raw_mvs0 = space::chroma();
+    let mut raw_refs1 = space::blocks();
+    let mut raw_mvs1 = space::chroma();
+    let k = 16 * n;
+    let k2 = 32 * n;
+    let k4 = 64 * n;
+    let m = only_if(lists, k);
+    let m2 = only_if(lists, k2);
+    let m4 = only_if(lists, k4);
+    read_and_derive(
+        fd,
+        z,
+        n,
+        &mut inter[..k],
+        &mut nnz[..k],
+        &mut ref0[..k],
+        &mut mv0[..k2],
+        &mut ref1[..m],
+        &mut mv1[..m2],
+        &mut raw_refs0[..k],
+        &mut raw_mvs0[..k4],
+        &mut raw_refs1[..m],
+        &mut raw_mvs1[..m4],
+        s,
+    )
+}

@@ -63,13 +63,18 @@ fn derive<'a>(
     mv0: &'a [i16],
     ref1: &[i8],
     mv1: &'a [i16],
+    t8s: &[u8],
     s: &mut [u8],
 ) -> bool {
     let mut done = true;
     for i in 0..n {
         let x = column(i, z.w);
         let y = row(i, z.w);
-        let p = Plain { x, y, t8: false };
+        let p = Plain {
+            x,
+            y,
+            t8: byte_at(t8s, i) != 0,
+        };
         done = done & (derive_mb(z, p, inter, nnz, ref0, mv0, ref1, mv1, s) == 0);
     }
     done
@@ -89,7 +94,7 @@ pub fn row(i: usize, w: usize) -> usize {
     i / w
 }
 
-fn only_if(on: bool, k: usize) -> usize
+pub fn only_if(on: bool, k: usize) -> usize
     ensures { λ r. ⌜ r ≤ k ⌝ }
 {
     if on {
@@ -134,6 +139,7 @@ fn read_and_derive(
     raw_mvs0: &mut [u8],
     raw_refs1: &mut [u8],
     raw_mvs1: &mut [u8],
+    t8s: &[u8],
     s: &mut [u8],
 ) -> bool {
     let whole = read(
@@ -149,11 +155,11 @@ fn read_and_derive(
         raw_refs1,
         raw_mvs1,
     );
-    whole & derive(z, n, inter, nnz, ref0, mv0, ref1, mv1, s)
+    whole & derive(z, n, inter, nnz, ref0, mv0, ref1, mv1, t8s, s)
 }
 
 // Reads the grids of at most 120 macroblocks and derives their strengths; false where there are more, the file is too short or a call was refused.
-pub fn strengths_of(fd: i32, z: Size, n: usize, lists: bool, s: &mut [u8]) -> bool {
+pub fn strengths_of(fd: i32, z: Size, n: usize, lists: bool, t8s: &[u8], s: &mut [u8]) -> bool {
     if 120 < n {
         return false;
     }
@@ -187,6 +193,7 @@ pub fn strengths_of(fd: i32, z: Size, n: usize, lists: bool, s: &mut [u8]) -> bo
         &mut raw_mvs0[..k4],
         &mut raw_refs1[..m],
         &mut raw_mvs1[..m4],
+        t8s,
         s,
     )
 }

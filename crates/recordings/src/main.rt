@@ -1,6 +1,6 @@
-// Replays recordings of a real decoder (FORMAT.md), whose names are the arguments: the strengths derived from the recorded grids are those of the file, and the
-// planes before the decoder's filter become those after it, filtered as a whole and by visits in three orders. It prints a line for each; what it must print
-// (stdout) is that all are equal.
+// Replays recordings (FORMAT.md) of a real decoder and of the Rust original. The arguments name the files, which hold one recording or several end to end. The
+// strengths derived from the recorded grids are those of the file, and the planes before the filter become those after it, filtered as a whole and by visits in
+// three orders. It prints a line for each; what it must print (stdout) is that all are equal.
 mod bytes;
 mod grids;
 mod orders;
@@ -28,11 +28,21 @@ fn planes(fd: i32, y: &mut [u8], u: &mut [u8], v: &mut [u8]) -> bool {
     fill(fd, y) & fill(fd, u) & fill(fd, v)
 }
 
-// Reads the parts after the header, in the file's order, and derives the strengths s. False where the file is shorter or longer than they are.
+// What a header says.
+struct Head {
+    z: Size,
+    n: usize,
+    lists: bool,
+    t8: bool,
+    free: bool,
+    chroma: i32,
+}
+
+// Reads the parts after the header, in the file's order, and derives the strengths s.
 fn load(
     fd: i32,
     z: Size,
-    n: usize,
+    blocks: usize,
     lists: bool,
     y: &mut [u8],
     u: &mut [u8],
@@ -42,23 +52,28 @@ fn load(
     av: &mut [u8],
     ab: &mut [u8],
     qps: &mut [u8],
+    t8s: &mut [u8],
     s: &mut [u8],
     told: &mut [u8],
 ) -> bool {
-    let mut more = [0u8; 1];
     let before = planes(fd, y, u, v);
     let after = planes(fd, ay, au, av);
-    let others = fill(fd, ab) & fill(fd, qps);
-    let derived = grids::strengths_of(fd, z, n, lists, s);
-    let stored = fill(fd, told);
-    before & after & others & derived & stored & !fill(fd, &mut more)
+    let others = planes(fd, ab, qps, t8s);
+    let derived = grids::strengths_of(fd, z, blocks, lists, t8s, s);
+    before & after & others & derived & fill(fd, told)
+}
+
+fn same_strengths(free: bool, s: &[u8], told: &[u8]) {
+    if free {
+        text(b", strengths as they are");
+        return;
+    }
+    verdict(b"strengths", equal(s, told));
 }
 
 fn report(
     whole: bool,
-    z: Size,
-    n: usize,
-    chroma: i32,
+    head: Head,
     y: &[u8],
     u: &[u8],
     v: &[u8],
@@ -67,28 +82,27 @@ fn report(
     av: &[u8],
     ab: &[u8],
     qps: &[u8],
+    t8s: &[u8],
     s: &[u8],
     told: &[u8],
 ) {
     if !whole {
-        text(b" cannot be read");
+        text(b" cannot be read\n");
         return;
     }
     let o = Offsets {
         a: offset(byte_at(ab, 0)),
         b: offset(byte_at(ab, 1)),
-        chroma,
+        chroma: head.chroma,
     };
-    verdict(b"strengths", equal(s, told));
-    orders::all(z, n, o, y, u, v, ay, au, av, s, qps);
+    same_strengths(head.free, s, told);
+    orders::all(head.z, head.n, o, y, u, v, ay, au, av, told, qps, t8s);
+    text(b"\n");
 }
 
 fn replay(
     fd: i32,
-    z: Size,
-    n: usize,
-    lists: bool,
-    chroma: i32,
+    head: Head,
     y: &mut [u8],
     u: &mut [u8],
     v: &mut [u8],
@@ -97,17 +111,37 @@ fn replay(
     av: &mut [u8],
     ab: &mut [u8],
     qps: &mut [u8],
+    t8s: &mut [u8],
     s: &mut [u8],
     told: &mut [u8],
-) {
-    let whole = load(fd, z, n, lists, y, u, v, ay, au, av, ab, qps, s, told);
-    report(whole, z, n, chroma, y, u, v, ay, au, av, ab, qps, s, told);
+) -> bool {
+    let blocks = grids::only_if(!head.free, head.n);
+    let whole = load(
+        fd,
+        head.z,
+        blocks,
+        head.lists,
+        y,
+        u,
+        v,
+        ay,
+        au,
+        av,
+        ab,
+        qps,
+        t8s,
+        s,
+        told,
+    );
+    report(whole, head, y, u, v, ay, au, av, ab, qps, t8s, s, told);
+    whole
 }
 
-fn picture(fd: i32, z: Size, n: usize, lists: bool, chroma: i32) {
+fn picture(fd: i32, head: Head) -> bool {
+    let n = head.n;
     if 120 < n {
-        text(b" is too large");
-        return;
+        text(b" is too large\n");
+        return false;
     }
     let mut y = space::luma();
     let mut u = space::chroma();
@@ -117,17 +151,16 @@ fn picture(fd: i32, z: Size, n: usize, lists: bool, chroma: i32) {
     let mut av = space::chroma();
     let mut ab = [0u8; 2];
     let mut qps = space::marks();
+    let mut t8s = space::marks();
     let mut s = space::strengths();
     let mut told = space::strengths();
     let ky = 256 * n;
     let kc = 64 * n;
     let ks = 32 * n;
+    let k8 = grids::only_if(head.t8, n);
     replay(
         fd,
-        z,
-        n,
-        lists,
-        chroma,
+        head,
         &mut y[..ky],
         &mut u[..kc],
         &mut v[..kc],
@@ -136,24 +169,25 @@ fn picture(fd: i32, z: Size, n: usize, lists: bool, chroma: i32) {
         &mut av[..kc],
         &mut ab,
         &mut qps[..n],
+        &mut t8s[..k8],
         &mut s[..ks],
         &mut told[..ks],
-    );
+    )
 }
 
-// A header of a frame of eight bits with one chroma offset and no grid but those of list 1.
+// A header of a frame of eight bits with one chroma offset, no slices and no reference tables.
 fn known(head: &[u8; 14]) -> bool {
-    (head[0] == b'D')
-        & (head[1] == b'B')
-        & (head[2] == b'V')
-        & (head[3] == b'1')
-        & (head[5] == 0)
-        & (head[7] == 0)
-        & (head[8] == 8)
-        & (head[9] == 1)
-        & (head[10] < 2)
-        & (head[11] == head[12])
-        & (head[13] == 0)
+    let magic = (head[0] == b'D') & (head[1] == b'B') & (head[2] == b'V') & (head[3] == b'1');
+    let small = (head[5] == 0) & (head[7] == 0);
+    let frame = (head[8] == 8) & (head[9] == 1) & (head[10] / 4 % 4 == 0) & (head[10] < 32);
+    magic & small & frame & (head[11] == head[12]) & (head[13] == 0)
+}
+
+fn has(flags: u8, bit: u8) -> bool {
+    if bit == 0 {
+        return false;
+    }
+    flags / bit % 2 == 1
 }
 
 fn wide(b: u8) -> usize {
@@ -164,35 +198,58 @@ fn product(a: u8, b: u8) -> usize {
     a as usize * b as usize
 }
 
-fn recording(fd: i32) {
+// One recording, and whether another may follow.
+fn recording(fd: i32, name: &[u8]) -> bool {
     let mut head = [0u8; 14];
-    let full = fill(fd, &mut head);
-    if !full | !known(&head) {
-        text(b" is of a kind that this program does not know");
-        return;
+    let got = io::read_full(fd, &mut head);
+    if got == 0 {
+        return false;
+    }
+    text(name);
+    text(b": ");
+    if (got != 14) | !known(&head) {
+        text(b"not of a kind that this program knows\n");
+        return false;
     }
     let w = wide(head[4]);
     let h = wide(head[6]);
-    let n = product(head[4], head[6]);
     number(w);
     text(b" by ");
     number(h);
-    picture(fd, Size { w, h }, n, head[10] == 1, offset(head[11]));
+    picture(
+        fd,
+        Head {
+            z: Size { w, h },
+            n: product(head[4], head[6]),
+            lists: has(head[10], 1),
+            t8: has(head[10], 2),
+            free: has(head[10], 16),
+            chroma: offset(head[11]),
+        },
+    )
+}
+
+// A proved loop has to end, and nothing says that a file does, so it takes 1000 turns.
+fn recordings(fd: i32, name: &[u8]) {
+    let mut more = true;
+    for t in 0..1000usize {
+        if more {
+            more = recording(fd, name);
+        }
+    }
 }
 
 fn argument(i: usize) {
     let mut name = io::buffer();
     let length = os::arg(i, &mut name);
-    text(&name[..length]);
-    text(b": ");
     let fd = os::open_read(&name[..length]);
     if fd < 0 {
+        text(&name[..length]);
         text(b" cannot be opened\n");
         return;
     }
-    recording(fd);
+    recordings(fd, &name[..length]);
     libc::close(fd);
-    text(b"\n");
 }
 
 fn main() {

@@ -1,5 +1,5 @@
 // A recorded picture filtered anew: as a whole, and by visits in three orders with refused ones among them.
-ghost use Prim.Native.Nat.{_<_};
+ghost use Prim.Native.Nat.{_<_, _≤_};
 use crate::bytes::all_ones;
 use crate::bytes::copy;
 use crate::bytes::equal;
@@ -11,6 +11,16 @@ use edges::Offsets;
 use edges::Size;
 use strengths::rows::filter_frame;
 use visits::visits::visit;
+
+// 120 passes over n macroblocks: each pass visits one at least, so n are enough.
+fn turns(n: usize) -> usize
+    ensures { λ r. ⌜ r ≤ 14400 ⌝ }
+{
+    if 120 < n {
+        return 0;
+    }
+    120 * n
+}
 
 // The macroblock of turn t: in raster order, from the last to the first, or in steps of seven.
 fn place(order: u8, t: usize, n: usize) -> usize
@@ -28,7 +38,7 @@ fn place(order: u8, t: usize, n: usize) -> usize
     7 * t % n
 }
 
-// Tries each macroblock 120 times or more, so that it has a turn after those that it waits for.
+// Tries all macroblocks again and again, so that each has a turn after those that it waits for.
 fn visits_in(
     order: u8,
     z: Size,
@@ -39,9 +49,10 @@ fn visits_in(
     v: &mut [u8],
     s: &[u8],
     qps: &[u8],
+    t8s: &[u8],
     marks: &mut [u8],
 ) {
-    for t in 0..14400usize {
+    for t in 0..turns(n) {
         let i = place(order, t, n);
         visit(
             z,
@@ -53,7 +64,7 @@ fn visits_in(
             v,
             s,
             qps,
-            &[],
+            t8s,
             marks,
         );
     }
@@ -73,6 +84,7 @@ fn becomes(
     av: &[u8],
     s: &[u8],
     qps: &[u8],
+    t8s: &[u8],
     ty: &mut [u8],
     tu: &mut [u8],
     tv: &mut [u8],
@@ -82,10 +94,10 @@ fn becomes(
     copy(tu, u);
     copy(tv, v);
     if order == 3 {
-        filter_frame(z, o, ty, tu, tv, s, qps, &[]);
+        filter_frame(z, o, ty, tu, tv, s, qps, t8s);
         return equal(ty, ay) & equal(tu, au) & equal(tv, av);
     }
-    visits_in(order, z, n, o, ty, tu, tv, s, qps, marks);
+    visits_in(order, z, n, o, ty, tu, tv, s, qps, t8s, marks);
     equal(ty, ay) & equal(tu, au) & equal(tv, av) & all_ones(marks)
 }
 
@@ -103,6 +115,7 @@ fn holds(
     av: &[u8],
     s: &[u8],
     qps: &[u8],
+    t8s: &[u8],
 ) -> bool {
     if 120 < n {
         return false;
@@ -126,6 +139,7 @@ fn holds(
         av,
         s,
         qps,
+        t8s,
         &mut ty[..ky],
         &mut tu[..kc],
         &mut tv[..kc],
@@ -145,15 +159,22 @@ pub fn all(
     av: &[u8],
     s: &[u8],
     qps: &[u8],
+    t8s: &[u8],
 ) {
-    verdict(b"picture", holds(3, z, n, o, y, u, v, ay, au, av, s, qps));
+    verdict(
+        b"picture",
+        holds(3, z, n, o, y, u, v, ay, au, av, s, qps, t8s),
+    );
     verdict(
         b"raster order",
-        holds(0, z, n, o, y, u, v, ay, au, av, s, qps),
+        holds(0, z, n, o, y, u, v, ay, au, av, s, qps, t8s),
     );
     verdict(
         b"reverse order",
-        holds(1, z, n, o, y, u, v, ay, au, av, s, qps),
+        holds(1, z, n, o, y, u, v, ay, au, av, s, qps, t8s),
     );
-    verdict(b"by sevens", holds(2, z, n, o, y, u, v, ay, au, av, s, qps));
+    verdict(
+        b"by sevens",
+        holds(2, z, n, o, y, u, v, ay, au, av, s, qps, t8s),
+    );
 }

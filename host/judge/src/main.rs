@@ -8,6 +8,7 @@ mod mistakes;
 mod model;
 mod model_lines;
 mod model_strengths;
+mod record;
 mod refusals;
 mod request;
 mod rounds;
@@ -30,6 +31,7 @@ const HELP: &str = "judge: compares the proved archive with the Rust original, e
   judge long SECONDS [SEED]  all small cases, then rounds until the time is over
   judge round SEED           one round again, to replay a mismatch
   judge mutants              runs wrong filters through the same comparison: all must be caught
+  judge record               writes the original's answers to 120 small pictures, for crates/recordings
 
 Exit status 0: all equal. 1: a mismatch, printed with its seed and the smallest case found. 2: wrong arguments.";
 
@@ -47,6 +49,7 @@ fn main() -> ExitCode {
         }
         ["round", seed] => number(seed).and_then(replay),
         ["mutants"] => Some(mistakes::run()),
+        ["record"] => Some(record::run(&mut std::io::stdout().lock())),
         ["--help"] | ["-h"] => {
             println!("{HELP}");
             return ExitCode::SUCCESS;

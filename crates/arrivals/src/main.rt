@@ -1,5 +1,5 @@
 // Replays arrival orders of two small pictures, refused visits among them, and prints answers, marks, luma sample (15, 15) and sums of the planes.
-// What it must print (stdout) was written by a model of the rules in Python, made from document 01 and compared with the recordings, not by this code.
+// What it must print (stdout) was written by `judge arrivals`: the Rust original filters each visited macroblock, and document 01's table answers.
 ghost use Prim.Native.Nat.{_<_};
 use edges::Offsets;
 use edges::Size;

@@ -1,5 +1,6 @@
 //! Compares the proved archive with the Rust original, every answer and every lent byte.
 
+mod arrivals;
 mod expect;
 mod fault;
 mod fence;
@@ -31,6 +32,7 @@ const HELP: &str = "judge: compares the proved archive with the Rust original, e
   judge long SECONDS [SEED]  all small cases, then rounds until the time is over
   judge round SEED           one round again, to replay a mismatch
   judge mutants              runs wrong filters through the same comparison: all must be caught
+  judge arrivals             prints what crates/arrivals must print
   judge record               writes the original's answers to 120 small pictures, for crates/recordings
 
 Exit status 0: all equal. 1: a mismatch, printed with its seed and the smallest case found. 2: wrong arguments.";
@@ -49,6 +51,7 @@ fn main() -> ExitCode {
         }
         ["round", seed] => number(seed).and_then(replay),
         ["mutants"] => Some(mistakes::run()),
+        ["arrivals"] => Some(arrivals::run(&mut std::io::stdout().lock()).is_ok()),
         ["record"] => Some(record::run(&mut std::io::stdout().lock())),
         ["--help"] | ["-h"] => {
             println!("{HELP}");

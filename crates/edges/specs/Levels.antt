@@ -1,9 +1,7 @@
 -- The rules by the thresholds that an edge is handed, and the thresholds of a macroblock's edges: what the code computes before it touches a line.
 use Prim.Native.Nat.{ℕ}
-use mathlib.Core.Bool.{cond}
-use lib.Dec.{eqb}
 use lib.IntN.{ℤ}
-use Rattle.lines.specs.Thresholds.{average, chromaQp, thresholdsOf}
+use Rattle.lines.specs.Thresholds.{tcBy, average, chromaQp, thresholdsOf}
 use Rattle.lines.specs.Luma.{kept, lumaLine}
 use Rattle.lines.specs.Chroma.{same, chromaLine}
 use Rattle.lines.specs.declared.limits.Limits.{Limits}
@@ -11,10 +9,6 @@ use Rattle.lines.specs.declared.limits.Limits.the-variants.{Filtered, Nothing}
 use Rattle.edges.specs.Edge.{LumaRule, ChromaRule}
 use Rattle.edges.specs.declared.levels.Three.{Three}
 use Rattle.edges.specs.declared.levels.Levels.{Levels}
-
--- tC0 of a strength, of the three
-unfoldable pub tcBy : ℕ → ℕ → ℕ → ℕ → ℕ
-tcBy bs tc1 tc2 tc3 = cond (eqb bs 1) tc1 (cond (eqb bs 2) tc2 tc3)
 
 abbrev pub lumaWith : ℕ → ℕ → ℕ → ℕ → ℕ → LumaRule
 lumaWith alpha beta tc1 tc2 tc3 bs = lumaLine 255 bs alpha beta (tcBy bs tc1 tc2 tc3)

@@ -46,3 +46,7 @@ thresholdsOf scale qp a b =
     cond (eqb (alphaOf scale qp a) 0) Nothing
     (cond (eqb (betaOf scale qp b) 0) Nothing
     (Filtered (alphaOf scale qp a) (betaOf scale qp b) (tc0Of scale qp a 0) (tc0Of scale qp a 1) (tc0Of scale qp a 2)))
+
+-- tC0 of a strength, of the three
+unfoldable pub tcBy : ℕ → ℕ → ℕ → ℕ → ℕ
+tcBy bs tc1 tc2 tc3 = cond (eqb bs 1) tc1 (cond (eqb bs 2) tc2 tc3)

@@ -1,0 +1,9 @@
+pub mod Turns
+pub mod Moved
+pub mod Stands
+pub mod Spots
+pub mod Zips
+pub mod Loads
+pub mod Rows
+pub mod Segments
+pub mod Both

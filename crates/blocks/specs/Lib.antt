@@ -1,0 +1,3 @@
+pub mod Lines
+pub mod Lanes
+pub mod Moves

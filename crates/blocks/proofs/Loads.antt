@@ -113,7 +113,7 @@ taken-stands at along step xs (horizontal e w) =
 given-stands : (at along step : ℕ) (t xs : Plane) → Straight along step → length t ≡ 128 → Spread 128 (spot at along step) (length xs)
     → Stands (spot at along step) xs t (given at along step t xs)
 unfolding given
-given-stands at along step t xs (vertical e w) l sp = rw e (cols-store at along (zipped (zipped (zipped t))) t xs (zip-three t) l (rw e at sp))
+given-stands at along step t xs (vertical e w) l sp = rw e (cols-store at along _ t xs (zip-three t) l (rw e at sp))
 given-stands at along step t xs (horizontal e w) l sp =
     let z : eqb step 1 ≡ false = ne-eqb step 1 (λ q. omega arith) in
     rw (z, e) (rows-store at step t xs l (rw e at sp))

@@ -1,28 +1,28 @@
--- A luma edge by segments: four times four lines are its sixteen. Assumes nothing.
-use mathlib.Core.Path.{_≡_, sym, _∙_}
-use Prim.Native.Nat.{ℕ, _+_, _*_, _/_, _<_}
+-- A luma edge by the strengths of its four segments, as `blocks` is lent them. Assumes nothing.
+use mathlib.Core.Path.{_≡_, refl}
+use mathlib.Core.List.{[], _∷_}
+use Prim.Native.Nat.{ℕ, zero, suc, _+_, _*_, _/_, _<_}
 use native.Mathlib.Omega.{arith}
-use lib.Arith.{digits-div}
+use lib.ListN.{getD}
 use Rattle.laws.specs.Loop.{upTo}
 use Rattle.laws.specs.Places.{Plane}
-use Rattle.laws.proofs.Loop.{upTo-same, upTo-flat}
+use Rattle.laws.proofs.Loop.{upTo-same}
 use Rattle.lines.specs.Planes.{lumaAt}
-use Rattle.edges.specs.Edge.{LumaRule, lumaLines, lumaEdge}
+use Rattle.blocks.specs.Lines.{strengthAt}
+use Rattle.edges.specs.Edge.{LumaRule, lumaEdge}
+use Rattle.edges.specs.Levels.{fourOf}
 
--- the lines of segment g
-abbrev pub segment : LumaRule → (ℕ → ℕ) → ℕ → ℕ → ℕ → ℕ → Plane → Plane
-segment rule bs at along step g = upTo 4 (lumaLines (rule (bs g)) (at + g * (4 * along)) along step)
+of-four : (bs : ℕ → ℕ) (q : ℕ) → q < 4 → getD (bs 0 ∷ bs 1 ∷ bs 2 ∷ bs 3 ∷ []) q 0 ≡ bs q
+of-four bs zero h = refl
+of-four bs (suc zero) h = refl
+of-four bs (suc (suc zero)) h = refl
+of-four bs (suc (suc (suc zero))) h = refl
+of-four bs (suc (suc (suc (suc q)))) h = absurd (none h)
+  where
+    none : suc (suc (suc (suc q))) < 4 → ⊥
+    none h = omega arith
 
-module _ (rule : LumaRule) (bs : ℕ → ℕ) (at along step : ℕ) (s : Plane) where
-  pub segments : upTo 4 (segment rule bs at along step) s ≡ lumaEdge rule bs at along step s
-  unfolding lumaEdge
-  segments =
-      upTo-same 4 _ _ s (λ g t l. upTo-same 4 _ _ t (λ k u m. turn g k u m))
-      ∙ upTo-flat 4 4 (λ (k : ℕ) (t : Plane). lumaLines (rule (bs (k / 4))) at along step k t) s
-    where
-      place : (g k : ℕ) → at + g * (4 * along) + k * along ≡ at + (g * 4 + k) * along
-      place g k = omega arith
-
-      turn : (g k : ℕ) (u : Plane) → k < 4
-          → lumaLines (rule (bs g)) (at + g * (4 * along)) along step k u ≡ lumaLines (rule (bs ((g * 4 + k) / 4))) at along step (g * 4 + k) u
-      turn g k u m = λ i. lumaAt (rule (bs (sym (digits-div g m) i))) (place g k i) step u
+pub segments : (rule : LumaRule) (bs : ℕ → ℕ) (at along step : ℕ) (s : Plane)
+    → upTo 16 (λ k. lumaAt (rule (strengthAt (fourOf bs) k)) (at + k * along) step) s ≡ lumaEdge rule bs at along step s
+unfolding lumaEdge
+segments rule bs at along step s = upTo-same 16 _ _ s (λ k t h. λ i. lumaAt (rule (of-four bs (k / 4) (omega arith) i)) (at + k * along) step t)

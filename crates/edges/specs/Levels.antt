@@ -6,9 +6,14 @@ use Rattle.lines.specs.Luma.{kept, lumaLine}
 use Rattle.lines.specs.Chroma.{same, chromaLine}
 use Rattle.lines.specs.declared.limits.Limits.{Limits}
 use Rattle.lines.specs.declared.limits.Limits.the-variants.{Filtered, Nothing}
+use Rattle.blocks.specs.declared.lanes.Four.{Four}
 use Rattle.edges.specs.Edge.{LumaRule, ChromaRule}
 use Rattle.edges.specs.declared.levels.Three.{Three}
 use Rattle.edges.specs.declared.levels.Levels.{Levels}
+
+-- the strengths of an edge's four segments
+abbrev pub fourOf : (ℕ → ℕ) → Four
+fourOf bs = record { a = bs 0; b = bs 1; c = bs 2; d = bs 3 }
 
 abbrev pub lumaWith : ℕ → ℕ → ℕ → ℕ → ℕ → LumaRule
 lumaWith alpha beta tc1 tc2 tc3 bs = lumaLine 255 bs alpha beta (tcBy bs tc1 tc2 tc3)

@@ -1,18 +1,18 @@
-// One edge of one plane, line by line. `at` is the place of its first line's first sample, `along` the way from a line to the next and `step` the way across,
-// so that vertical and horizontal edges are one function. The four strengths stand at `first` in `bs`.
+// One edge of one plane: luma sixteen lines at a time, chroma line by line. `at` is the place of its first line's first sample, `along` the way from a line to
+// the next and `step` the way across, so that vertical and horizontal edges are one function. The four strengths stand at `first` in `bs`.
 ghost use mathlib.Core.Path.{_≡_};
-ghost use Prim.Native.Nat.{_+_, _-_, _*_, _<_, _≤_};
+ghost use Prim.Native.Nat.{_+_, _*_, _<_, _≤_};
 ghost use lib.ListN.{length};
-ghost use Rattle.laws.specs.Loop.{upTo};
-ghost use Rattle.lines.specs.Luma.{lumaLine};
 ghost use Rattle.lines.specs.Thresholds.{tcBy};
-ghost use Rattle.edges.specs.Edge.{lumaLines, lumaEdge, chromaEdge};
-ghost use Rattle.edges.specs.Levels.{lumaWith, chromaWith, lumaBy, chromaBy};
+ghost use Rattle.blocks.specs.Lines.{Straight};
+ghost use Rattle.edges.specs.Edge.{lumaEdge, chromaEdge};
+ghost use Rattle.edges.specs.Levels.{fourOf, chromaWith, lumaBy, chromaBy};
 ghost use Rattle.edges.specs.Macroblock.{after};
 ghost use Rattle.edges.specs.Picture.{entries};
+use blocks::lanes::Four;
+use blocks::luma::luma_lines;
 use lines::limits::Limits;
 use lines::planes::filter_chroma_line;
-use lines::planes::filter_luma_line;
 
 // tC0 of a strength.
 fn tc0(bs: u8, tc1: u8, tc2: u8, tc3: u8) -> u8
@@ -27,49 +27,16 @@ fn tc0(bs: u8, tc1: u8, tc2: u8, tc3: u8) -> u8
     tc3
 }
 
-// Four luma lines of one strength. At strength 0 none is touched.
-fn luma_segment(
-    plane: &mut [u8],
-    at: usize,
-    along: usize,
-    step: usize,
-    bs: u8,
-    alpha: u8,
-    beta: u8,
-    tc: u8,
-)
-    requires { ⌜ at + 3 * along + 7 * step < length (now plane) ⌝ }
-    ensures { λ _. ⌜ now (plane .exit) ≡ upTo 4 (lumaLines (lumaLine 255 bs alpha beta tc) at along step) (now (plane .entry)) ⌝ }
+// The strengths of an edge's four segments.
+fn four(bs: &[u8], first: usize) -> Four
+    requires { ⌜ first + 4 ≤ length (now bs) ⌝ }
+    ensures { λ r. ⌜ r ≡ fourOf (after first (entries (now (bs .entry)))) ⌝ }
 {
-    if bs == 0 {
-        return;
-    }
-    for k in 0..4usize {
-        filter_luma_line(plane, at + k * along, step, bs, alpha, beta, tc);
-    }
-}
-
-// Four segments, each of its own strength.
-fn luma_segments(
-    plane: &mut [u8],
-    at: usize,
-    along: usize,
-    step: usize,
-    bs: &[u8],
-    first: usize,
-    alpha: u8,
-    beta: u8,
-    tc1: u8,
-    tc2: u8,
-    tc3: u8,
-)
-    requires { ⌜ (at + 15 * along + 7 * step < length (now plane)) × (first + 4 ≤ length (now bs)) ⌝ }
-    ensures { λ _. ⌜ now (plane .exit) ≡ lumaEdge (lumaWith alpha beta tc1 tc2 tc3) (after first (entries (now (bs .entry)))) at along step (now (plane .entry)) ⌝ }
-{
-    for g in 0..4usize {
-        let s = bs[first + g];
-        let tc = tc0(s, tc1, tc2, tc3);
-        luma_segment(plane, at + g * (4 * along), along, step, s, alpha, beta, tc);
+    Four {
+        a: bs[first],
+        b: bs[first + 1],
+        c: bs[first + 2],
+        d: bs[first + 3],
     }
 }
 
@@ -84,6 +51,7 @@ pub fn luma_edge(
     limits: Limits,
 )
     requires { ⌜ (at + 15 * along + 7 * step < length (now plane)) × (first + 4 ≤ length (now bs)) ⌝ }
+    requires { ⌜ Straight along step ⌝ }
     ensures { λ _. ⌜ now (plane .exit) ≡ lumaEdge (lumaBy limits) (after first (entries (now (bs .entry)))) at along step (now (plane .entry)) ⌝ }
 {
     let Limits::Filtered {
@@ -96,19 +64,8 @@ pub fn luma_edge(
     else {
         return;
     };
-    luma_segments(
-        plane,
-        at,
-        along,
-        step,
-        bs,
-        first,
-        alpha,
-        beta,
-        tc1,
-        tc2,
-        tc3,
-    );
+    let s = four(bs, first);
+    luma_lines(plane, at, along, step, s, alpha, beta, tc1, tc2, tc3);
 }
 
 // Eight chroma lines, two of each strength.

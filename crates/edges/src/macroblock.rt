@@ -3,6 +3,7 @@ ghost use mathlib.Core.Path.{_≡_};
 ghost use Prim.Native.Nat.{_+_, _-_, _*_, _<_, _≤_};
 ghost use mathlib.Core.Bool.{true, cond};
 ghost use lib.ListN.{length};
+ghost use Rattle.blocks.specs.Lines.{Straight};
 ghost use Rattle.edges.specs.Edge.{lumaEdge, chromaEdge};
 ghost use Rattle.edges.specs.Levels.{lumaBy, chromaBy};
 ghost use Rattle.edges.specs.Macroblock.{after, idleOf, lumaWay, chromaWay, lumaBoth, chromaBoth};
@@ -24,6 +25,7 @@ fn luma_edge_if(
     limits: Limits,
 )
     requires { ⌜ (on ≡ true → 4 * step ≤ q) × (q + 15 * along + 3 * step < length (now plane)) × (first + 4 ≤ length (now bs)) ⌝ }
+    requires { ⌜ Straight along step ⌝ }
     ensures { λ _. ⌜ now (plane .exit) ≡ cond on (lumaEdge (lumaBy limits) (after first (entries (now (bs .entry)))) (q - 4 * step) along step (now (plane .entry))) (now (plane .entry)) ⌝ }
 {
     if on {
@@ -63,6 +65,7 @@ fn luma_way(
     inside: Limits,
 )
     requires { ⌜ (near ≡ true → 4 * step ≤ origin) × (origin + 15 * along + 15 * step < length (now plane)) × (first + 16 ≤ length (now bs)) ⌝ }
+    requires { ⌜ Straight along step ⌝ }
     ensures { λ _. ⌜ now (plane .exit) ≡ lumaWay (lumaBy border) (lumaBy inside) near t8 (after first (entries (now (bs .entry)))) origin along step (now (plane .entry)) ⌝ }
 {
     let q1 = origin + 4 * step;
@@ -107,6 +110,7 @@ pub fn luma(
     limits: Three,
 )
     requires { ⌜ (left ≡ true → 4 * 1 ≤ origin) × (top ≡ true → 4 * stride ≤ origin) × (origin + 15 * stride + 15 < length (now plane)) × (first + 32 ≤ length (now bs)) ⌝ }
+    requires { ⌜ 16 ≤ stride ⌝ }
     ensures { λ _. ⌜ now (plane .exit) ≡ lumaBoth (lumaBy (limits .left)) (lumaBy (limits .top)) (lumaBy (limits .inner)) left top t8 (after first (entries (now (bs .entry)))) origin stride (now (plane .entry)) ⌝ }
 {
     let l = limits.left;

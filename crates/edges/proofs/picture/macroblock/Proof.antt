@@ -26,7 +26,7 @@ of-macroblock-requires c κs =
 luma-requires : tie.Need-luma-requires
 luma-requires c κs =
     let s = c .before .before .before .before .before .before .before .before .before .before .before .before .before in
-    (λ h. omega (arith, s .pre, ltb-true), λ h. omega (arith, row-pos (s .args .row) (s .args .w) h), omega (arith, s .pre), omega (arith, s .pre))
+    ((λ h. omega (arith, s .pre, ltb-true), λ h. omega (arith, row-pos (s .args .row) (s .args .w) h), omega (arith, s .pre), omega (arith, s .pre)), omega (arith, s .pre))
 
 chroma-requires : tie.Need-chroma-requires
 chroma-requires c κs =

@@ -3,20 +3,19 @@ use mathlib.Core.Path.{_≡_, refl, sym, ap, _∙_}
 use mathlib.Core.Bool.{Bool, true, false, cond}
 use mathlib.Core.Logic.{_≢_}
 use mathlib.Core.List.{List, [], _∷_}
-use Prim.Native.Nat.{ℕ, _+_, _%_, _<_}
+use Prim.Native.Nat.{ℕ, _%_, _<_}
 use native.Mathlib.Decide.{ℕ-discrete}
 use native.Mathlib.Omega.{arith}
 use lib.Dec.{ltb}
 use lib.ListN.{getD}
 use Rattle.laws.specs.Local.{Local}
-use Rattle.laws.specs.Places.{Plane, places}
-use Rattle.laws.proofs.Local.{commute, local-through}
+use Rattle.laws.specs.Places.{Plane}
+use Rattle.laws.proofs.Local.{commute}
 use Rattle.laws.proofs.Loop.{upTo-same, upTo-idle}
-use Rattle.laws.proofs.Places.{all-places}
 use Rattle.lines.specs.Luma.{Line, kept, normalLine, strongLine}
-use Rattle.lines.specs.Planes.{toLine, fromSix, lumaAt}
+use Rattle.lines.specs.Planes.{lumaAt}
 use Rattle.lines.specs.declared.luma.Six.{Six}
-use Rattle.lines.proofs.OnPlane.{lumaAt-kept}
+use Rattle.lines.proofs.OnPlane.{lumaAt-in, lumaAt-kept}
 use Rattle.lines.proofs.Strengths.{luma-none}
 use Rattle.blocks.specs.Lines.{strengthAt, linesOf, own}
 use Rattle.blocks.specs.Lanes.{kindOf, lanesOf, isWeak, anyWeak, anyStrong, none, normalBy, strongBy, plainBy}
@@ -27,10 +26,7 @@ use Rattle.blocks.proofs.Rows.{weakRow, tcRow, strongRow, normal-off, s
 
 -- ---- lines of a block: each stays in its column, so that two of them may be made in either order
 column : (f : Line → Six) (k : ℕ) → k < 16 → Local (λ p. p % 16 ≡ k) (lumaAt f k 16)
-unfolding lumaAt
-column f k h =
-    local-through (λ p. p % 16 ≡ k) (places k 16 8) (places (k + 16) 16 6) (λ vs. fromSix (f (toLine vs)))
-    (all-places (λ p. p % 16 ≡ k) 8 k 16 (λ j l. omega arith)) (all-places (λ p. p % 16 ≡ k) 6 (k + 16) 16 (λ j l. omega arith))
+column f k h = lumaAt-in (λ p. p % 16 ≡ k) k 16 f (λ j l. omega arith)
 
 columns-commute : (f g : Line → Six) (i j : ℕ) (xs : Plane) → i < 16 → j < 16 → i ≢ j
     → lumaAt f i 16 (lumaAt g j 16 xs) ≡ lumaAt g j 16 (lumaAt f i 16 xs)

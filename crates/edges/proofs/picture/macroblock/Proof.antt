@@ -3,10 +3,10 @@ use borrow.Author.Needs.{needs}
 use borrow.Author.Tests.{ltb-true}
 use mathlib.Core.Path.{sym, _∙_}
 use native.Mathlib.Omega.{arith}
+use Rattle.laws.proofs.Grid.{row-pos}
 use Rattle.edges.specs.Picture.{held}
 use Rattle.edges.proofs.Idle.{macroblock-still, idle-zero}
 use Rattle.edges.proofs.Made.{made}
-use Rattle.edges.proofs.Room.{row-pos}
 use Rattle.edges.proofs.picture.macroblock.Statement.{statement}
 use Rattle.edges.proofs.picture.macroblock.Tie as tie
 
@@ -21,22 +21,22 @@ flag-requires c κs h = let k = c .before .before .before .before .before .befor
 of-macroblock-requires : tie.Need-of-macroblock-requires
 of-macroblock-requires c κs =
     let s = c .before .before .before .before .before .before .before .before .before in
-    (s .pre .0, (omega arith, λ h. omega (arith, ltb-true), λ h. omega (arith, row-pos (s .args .row) (s .args .w) h)))
+    (s .pre .0, (omega arith, λ h. omega (arith, ltb-true), λ h. omega (arith, row-pos (s .args .row) (s .args .w) (ltb-true 0 (s .args .row) h))))
 
 luma-requires : tie.Need-luma-requires
 luma-requires c κs =
     let s = c .before .before .before .before .before .before .before .before .before .before .before .before .before in
-    ((λ h. omega (arith, s .pre, ltb-true), λ h. omega (arith, row-pos (s .args .row) (s .args .w) h), omega (arith, s .pre), omega (arith, s .pre)), omega (arith, s .pre))
+    ((λ h. omega (arith, s .pre, ltb-true), λ h. omega (arith, row-pos (s .args .row) (s .args .w) (ltb-true 0 (s .args .row) h)), omega (arith, s .pre), omega (arith, s .pre)), omega (arith, s .pre))
 
 chroma-requires : tie.Need-chroma-requires
 chroma-requires c κs =
     let s = c .before .before .before .before .before .before .before .before .before .before .before .before .before .before .before .before .before in
-    (λ h. omega (arith, s .pre, ltb-true), λ h. omega (arith, row-pos (s .args .row) (s .args .w) h), omega (arith, s .pre), omega (arith, s .pre))
+    (λ h. omega (arith, s .pre, ltb-true), λ h. omega (arith, row-pos (s .args .row) (s .args .w) (ltb-true 0 (s .args .row) h)), omega (arith, s .pre), omega (arith, s .pre))
 
 chroma-requires-2 : tie.Need-chroma-requires-2
 chroma-requires-2 c κs =
     let s = c .before .before .before .before .before .before .before .before .before .before .before .before .before .before .before .before .before .before .before .before .before in
-    (λ h. omega (arith, s .pre, ltb-true), λ h. omega (arith, row-pos (s .args .row) (s .args .w) h), omega (arith, s .pre), omega (arith, s .pre))
+    (λ h. omega (arith, s .pre, ltb-true), λ h. omega (arith, row-pos (s .args .row) (s .args .w) (ltb-true 0 (s .args .row) h)), omega (arith, s .pre), omega (arith, s .pre))
 
 returns-2 : tie.Need-returns-2
 returns-2 c =

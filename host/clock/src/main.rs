@@ -13,11 +13,11 @@ use std::process::ExitCode;
 /// 720 by 576 in macroblocks.
 const W: usize = 45;
 const H: usize = 36;
-/// The request's bound on the archive's time by the original's.
-const BOUND: f64 = 1.5;
+/// The archive takes no longer than the original. Request [13] would allow 1.5.
+const BOUND: f64 = 1.0;
 
 const HELP: &str = "clock [PICTURES]: the proved archive against the Rust original on pictures of 720 by 576
-with stored strengths, PICTURES of each content (300 or more; 300 without). Exit status 0: within 1.5 times.";
+with stored strengths, PICTURES of each content (300 or more; 300 without). Exit status 0: not slower.";
 
 fn main() -> ExitCode {
     let words: Vec<String> = std::env::args().skip(1).collect();
@@ -39,7 +39,7 @@ fn main() -> ExitCode {
     for content in [Content::Intra, Content::Mixed, Content::Still] {
         within &= clock(content, pictures);
     }
-    println!("{}", if within { "within 1.5 times the Rust" } else { "NOT within 1.5 times the Rust" });
+    println!("{}", if within { "not slower than the Rust" } else { "SLOWER than the Rust" });
     if within {
         ExitCode::SUCCESS
     } else {

@@ -20,7 +20,7 @@ use Rattle.lines.proofs.Strengths.{luma-none}
 use Rattle.blocks.specs.Lines.{strengthAt, linesOf, own}
 use Rattle.blocks.specs.Lanes.{kindOf, lanesOf, isWeak, anyWeak, anyStrong, none, normalBy, strongBy, plainBy}
 use Rattle.blocks.specs.declared.lanes.Four.{Four}
-use Rattle.blocks.proofs.Turns.{upTo-fuse}
+use Rattle.blocks.proofs.Loops.{upTo-fuse}
 use Rattle.blocks.proofs.Segments.{lane, no-one, zeros}
 use Rattle.blocks.proofs.Rows.{weakRow, tcRow, strongRow, normal-off, strong-off, weak-none, strong-none, both}
 

@@ -1,4 +1,4 @@
-pub mod Turns
+pub mod Loops
 pub mod Moved
 pub mod Stands
 pub mod Spots

@@ -12,7 +12,7 @@ use Rattle.lines.specs.Luma.{Line}
 use Rattle.lines.specs.declared.luma.Six.{Six}
 use Rattle.blocks.specs.Lines.{Straight, vertical, horizontal, linesOf, own}
 use Rattle.blocks.specs.Moves.{copied, loaded, stored, zipped, taken, given}
-use Rattle.blocks.proofs.Turns.{rows-flat}
+use Rattle.blocks.proofs.Loops.{rows-flat}
 use Rattle.blocks.proofs.Moved.{moved, moved-length, moved-at, moved-off, Spread}
 use Rattle.blocks.proofs.Stands.{Stands, stands-one, stands-lines}
 use Rattle.blocks.proofs.Spots.{spot, spot-is, spots-spread, spots-lie}

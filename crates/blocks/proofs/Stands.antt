@@ -13,7 +13,7 @@ use Rattle.lines.specs.Luma.{Line}
 use Rattle.lines.specs.Planes.{toLine, fromSix, lumaAt}
 use Rattle.lines.specs.declared.luma.Six.{Six}
 use Rattle.blocks.specs.Lines.{linesOf, own}
-use Rattle.blocks.proofs.Turns.{upTo-both}
+use Rattle.blocks.proofs.Loops.{upTo-both}
 use Rattle.blocks.proofs.Moved.{Spread, hit-or-not}
 
 -- ys is xs, but for the places φ i, where it holds the block b

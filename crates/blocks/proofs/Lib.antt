@@ -7,3 +7,4 @@ pub mod Loads
 pub mod Rows
 pub mod Segments
 pub mod Both
+pub mod Examples

@@ -8,3 +8,4 @@ pub mod Rows
 pub mod Segments
 pub mod Both
 pub mod Examples
+pub mod Refused

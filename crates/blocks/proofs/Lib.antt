@@ -1,4 +1,3 @@
-pub mod Loops
 pub mod Moved
 pub mod Stands
 pub mod Spots

@@ -8,6 +8,7 @@ pub mod Ints
 pub mod Lists
 pub mod Local
 pub mod Loop
+pub mod Loops
 pub mod Num
 pub mod Places
 pub mod Raster

@@ -24,11 +24,12 @@ fn offset(b: u8) -> i32 {
     !(below as i32)
 }
 
-fn planes(fd: i32, y: &mut [u8], u: &mut [u8], v: &mut [u8]) -> bool {
-    fill(fd, y) & fill(fd, u) & fill(fd, v)
+// Three parts, one after the other.
+fn three(fd: i32, a: &mut [u8], b: &mut [u8], c: &mut [u8]) -> bool {
+    fill(fd, a) & fill(fd, b) & fill(fd, c)
 }
 
-// What a header says.
+// What a header says: the size, how many macroblocks, whether there are list 1 and an 8x8 grid, whether the strengths are free of grids, the chroma offset.
 struct Head {
     z: Size,
     n: usize,
@@ -56,9 +57,9 @@ fn load(
     s: &mut [u8],
     told: &mut [u8],
 ) -> bool {
-    let before = planes(fd, y, u, v);
-    let after = planes(fd, ay, au, av);
-    let others = planes(fd, ab, qps, t8s);
+    let before = three(fd, y, u, v);
+    let after = three(fd, ay, au, av);
+    let others = three(fd, ab, qps, t8s);
     let derived = grids::strengths_of(fd, z, blocks, lists, t8s, s);
     before & after & others & derived & fill(fd, told)
 }
@@ -71,6 +72,7 @@ fn same_strengths(free: bool, s: &[u8], told: &[u8]) {
     verdict(b"strengths", equal(s, told));
 }
 
+// What became of a recording: ay, au and av are the planes after the filter, told the strengths of the file.
 fn report(
     whole: bool,
     head: Head,

@@ -1,9 +1,9 @@
--- Laws of loops beside those of `laws`: loops that go side by side, or one after the other, and rows of turns. Assumes nothing.
+-- Laws of two loops: side by side, one after the other, and one within the other. Assumes nothing.
 use mathlib.Core.Path.{_≡_, refl, ap, _∙_}
 use Prim.Native.Nat.{ℕ, zero, suc, _+_, _*_, _<_}
 use native.Mathlib.Omega.{arith}
 use Rattle.laws.specs.Loop.{upTo}
 use Rattle.laws.proofs.Loop.{upTo-same, upTo-flat}
 
 -- what each turn keeps of two states
 pub upTo-both : {S U : Type 0} (R : S → U → Type 0) (n : ℕ) (f : ℕ → S → S) (g : ℕ → U → U) (s : S) (u : U)

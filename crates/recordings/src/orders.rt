@@ -22,25 +22,38 @@ fn turns(n: usize) -> usize
     120 * n
 }
 
-// The macroblock of turn t: in raster order, from the last to the first, or in steps of seven.
-fn place(order: u8, t: usize, n: usize) -> usize
+// How a picture is filtered: by the whole-picture call, or by visits in raster order, from the last macroblock to the first, or in steps of seven.
+pub enum Way {
+    Whole,
+    Raster,
+    Reverse,
+    Sevens,
+}
+
+// The macroblock that is visited in turn t.
+fn place(way: Way, t: usize, n: usize) -> usize
     requires { ⌜ t < 14400 ⌝ }
 {
     if n == 0 {
         return 0;
     }
-    if order == 0 {
-        return t % n;
+    match way {
+        Way::Reverse => (14399 - t) % n,
+        Way::Sevens => 7 * t % n,
+        _ => t % n,
     }
-    if order == 1 {
-        return (14399 - t) % n;
+}
+
+fn is_whole(way: Way) -> bool {
+    match way {
+        Way::Whole => true,
+        _ => false,
     }
-    7 * t % n
 }
 
 // Tries all macroblocks again and again, so that each has a turn after those that it waits for.
 fn visits_in(
-    order: u8,
+    way: Way,
     z: Size,
     n: usize,
     o: Offsets,
@@ -53,7 +66,7 @@ fn visits_in(
     marks: &mut [u8],
 ) {
     for t in 0..turns(n) {
-        let i = place(order, t, n);
+        let i = place(way, t, n);
         visit(
             z,
             column(i, z.w),
@@ -70,9 +83,39 @@ fn visits_in(
     }
 }
 
-// Whether planes that are filled with y, u and v become ay, au and av: by the whole-picture call where the order is 3.
+fn filter(
+    way: Way,
+    z: Size,
+    n: usize,
+    o: Offsets,
+    y: &mut [u8],
+    u: &mut [u8],
+    v: &mut [u8],
+    s: &[u8],
+    qps: &[u8],
+    t8s: &[u8],
+    marks: &mut [u8],
+) {
+    if is_whole(way) {
+        filter_frame(z, o, y, u, v, s, qps, t8s);
+        return;
+    }
+    visits_in(way, z, n, o, y, u, v, s, qps, t8s, marks);
+}
+
+fn copies(ty: &mut [u8], tu: &mut [u8], tv: &mut [u8], y: &[u8], u: &[u8], v: &[u8]) {
+    copy(ty, y);
+    copy(tu, u);
+    copy(tv, v);
+}
+
+fn same(ty: &[u8], tu: &[u8], tv: &[u8], ay: &[u8], au: &[u8], av: &[u8]) -> bool {
+    equal(ty, ay) & equal(tu, au) & equal(tv, av)
+}
+
+// Whether planes that are filled with y, u and v become ay, au and av.
 fn becomes(
-    order: u8,
+    way: Way,
     z: Size,
     n: usize,
     o: Offsets,
@@ -90,20 +133,15 @@ fn becomes(
     tv: &mut [u8],
     marks: &mut [u8],
 ) -> bool {
-    copy(ty, y);
-    copy(tu, u);
-    copy(tv, v);
-    if order == 3 {
-        filter_frame(z, o, ty, tu, tv, s, qps, t8s);
-        return equal(ty, ay) & equal(tu, au) & equal(tv, av);
-    }
-    visits_in(order, z, n, o, ty, tu, tv, s, qps, t8s, marks);
-    equal(ty, ay) & equal(tu, au) & equal(tv, av) & all_ones(marks)
+    copies(ty, tu, tv, y, u, v);
+    filter(way, z, n, o, ty, tu, tv, s, qps, t8s, marks);
+    let visited = is_whole(way) | all_ones(marks);
+    visited & same(ty, tu, tv, ay, au, av)
 }
 
 // The same in planes of this function's own, for at most 120 macroblocks.
 fn holds(
-    order: u8,
+    way: Way,
     z: Size,
     n: usize,
     o: Offsets,
@@ -127,7 +165,7 @@ fn holds(
     let ky = 256 * n;
     let kc = 64 * n;
     becomes(
-        order,
+        way,
         z,
         n,
         o,
@@ -163,18 +201,18 @@ pub fn all(
 ) {
     verdict(
         b"picture",
-        holds(3, z, n, o, y, u, v, ay, au, av, s, qps, t8s),
+        holds(Way::Whole, z, n, o, y, u, v, ay, au, av, s, qps, t8s),
     );
     verdict(
         b"raster order",
-        holds(0, z, n, o, y, u, v, ay, au, av, s, qps, t8s),
+        holds(Way::Raster, z, n, o, y, u, v, ay, au, av, s, qps, t8s),
     );
     verdict(
         b"reverse order",
-        holds(1, z, n, o, y, u, v, ay, au, av, s, qps, t8s),
+        holds(Way::Reverse, z, n, o, y, u, v, ay, au, av, s, qps, t8s),
     );
     verdict(
         b"by sevens",
-        holds(2, z, n, o, y, u, v, ay, au, av, s, qps, t8s),
+        holds(Way::Sevens, z, n, o, y, u, v, ay, au, av, s, qps, t8s),
     );
 }

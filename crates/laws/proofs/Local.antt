@@ -11,9 +11,9 @@ use lib.Dec.{T}
 use lib.ListN.{length, getD, set, length-set}
 use lib.Seq.{ext-getD, getD-set-same, getD-set-other, set-out}
 use Rattle.laws.specs.Loop.{upTo}
-use Rattle.laws.specs.Places.{Plane, places, gets, puts, through, All, Among}
+use Rattle.laws.specs.Places.{Plane, places, gets, puts, through, lineAt, All, Among}
 use Rattle.laws.specs.Local.{Agree, Local}
-use Rattle.laws.proofs.Places.{puts-length, all-among, decAmong}
+use Rattle.laws.proofs.Places.{puts-length, all-places, all-among, decAmong}
 
 pub commute : (F G : ℕ → Type 0) (f g : Plane → Plane) → ((p : ℕ) → Dec (F p)) → ((p : ℕ) → Dec (G p)) → ((p : ℕ) → F p → G p → ⊥)
     → Local F f → Local G g → (s : Plane) → f (g s) ≡ g (f s)
@@ -87,6 +87,12 @@ module _ (F : ℕ → Type 0) where
     out = λ s p n. puts-out qs (f (gets ps s)) s k p n;
     same = λ s t e a q g. puts-same qs (f (gets ps s)) s t e a q g ∙ ap (λ (vs : List ℕ). getD (puts qs (f vs) t) q 0) (gets-same ps s t h a);
   }
+
+  -- a line of n + 2 places, all of them inside
+  pub lineAt-in : (n : ℕ) (f : List ℕ → List ℕ) (at step : ℕ) → ((k : ℕ) → k < suc (suc n) → F (at + k * step)) → Local F (lineAt n f at step)
+  lineAt-in n f at step h =
+      local-through (places at step (suc (suc n))) (places (at + step) step n) f (all-places F (suc (suc n)) at step h)
+      (all-places F n (at + step) step (λ k l. let e : at + suc k * step ≡ at + step + k * step = omega arith in subst F e (h (suc k) (omega arith))))
 
 -- a line by itself: its footprint is its own places, and lines with no place in common may be made in either order
 pub local-line : (ps qs : List ℕ) (f : List ℕ → List ℕ) → All (Among ps) qs → Local (Among ps) (through ps qs f)

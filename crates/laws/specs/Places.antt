@@ -26,6 +26,11 @@ puts (p ∷ ps) (v ∷ vs) s = puts ps vs (set s p v)
 abbrev pub through : List ℕ → List ℕ → (List ℕ → List ℕ) → Plane → Plane
 through ps qs f s = puts qs (f (gets ps s)) s
 
+-- a line of n + 2 places, `step` apart from `at` on: what stands there goes through f, and what comes out is
+-- stored at the n between the outermost
+abbrev pub lineAt : ℕ → (List ℕ → List ℕ) → ℕ → ℕ → Plane → Plane
+lineAt n f at step = through (places at step (suc (suc n))) (places (at + step) step n) f
+
 -- each of the list is an F
 abbrev pub All : (ℕ → Type 0) → List ℕ → Type 0
 All F [] = Unit {0}

@@ -1,16 +1,15 @@
 -- A line of a plane: what a caller may know of it without its formula. All are instances of the laws of places and of local functions. Assumes nothing.
-use mathlib.Core.Path.{_≡_, subst, _∙_}
-use Prim.Native.Nat.{ℕ, suc, _+_, _*_, _<_}
-use native.Mathlib.Omega.{arith}
+use mathlib.Core.Path.{_≡_, _∙_}
+use Prim.Native.Nat.{ℕ, _+_, _*_, _<_}
 use lib.Dec.{lit≤}
 use lib.ListN.{getD}
-use Rattle.laws.specs.Places.{Plane, places, gets, All, Among}
+use Rattle.laws.specs.Places.{Plane, places, gets, Among}
 use Rattle.laws.specs.Local.{Local}
-use Rattle.laws.proofs.Places.{puts-beside, puts-gets, all-places, inner-among}
-use Rattle.laws.proofs.Local.{local-through, local-line, line-commute}
+use Rattle.laws.proofs.Places.{puts-beside, puts-gets, inner-among}
+use Rattle.laws.proofs.Local.{lineAt-in, local-line, line-commute}
 use Rattle.lines.specs.Luma.{Line, kept}
 use Rattle.lines.specs.Chroma.{Short, same}
-use Rattle.lines.specs.Planes.{toLine, fromSix, toShort, fromTwo, lumaAt, chromaAt}
+use Rattle.lines.specs.Planes.{onLine, onShort, lumaAt, chromaAt}
 use Rattle.lines.specs.declared.luma.Six.{Six}
 use Rattle.lines.specs.declared.shared.Two.{Two}
 
@@ -34,36 +33,31 @@ module _ (at step : ℕ) (xs : Plane) where
 module _ (at step : ℕ) (xs : Plane) (j : ℕ) where
   pub lumaAt-beside : (f : Line → Six) → (Among (places (at + step) step 6) j → ⊥) → getD (lumaAt f at step xs) j 0 ≡ getD xs j 0
   unfolding lumaAt
-  lumaAt-beside f h = puts-beside (places (at + step) step 6) (fromSix (f (toLine (gets (places at step 8) xs)))) xs j h
+  lumaAt-beside f h = puts-beside (places (at + step) step 6) (onLine f (gets (places at step 8) xs)) xs j h
 
   pub chromaAt-beside : (f : Short → Two) → (Among (places (at + step) step 2) j → ⊥) → getD (chromaAt f at step xs) j 0 ≡ getD xs j 0
   unfolding chromaAt
-  chromaAt-beside f h = puts-beside (places (at + step) step 2) (fromTwo (f (toShort (gets (places at step 4) xs)))) xs j h
+  chromaAt-beside f h = puts-beside (places (at + step) step 2) (onShort f (gets (places at step 4) xs)) xs j h
 
 -- ---- local to F where all its places are in F
 module _ (F : ℕ → Type 0) (at step : ℕ) where
-  inner : (n : ℕ) → ((k : ℕ) → k < suc n → F (at + k * step)) → All F (places (at + step) step n)
-  inner n h = all-places F n (at + step) step (λ k l. let e : at + suc k * step ≡ at + step + k * step = omega arith in subst F e (h (suc k) (omega arith)))
-
   pub lumaAt-in : (f : Line → Six) → ((k : ℕ) → k < 8 → F (at + k * step)) → Local F (lumaAt f at step)
   unfolding lumaAt
-  lumaAt-in f h =
-      local-through F (places at step 8) (places (at + step) step 6) (λ vs. fromSix (f (toLine vs))) (all-places F 8 at step h) (inner 6 (λ k l. h k (omega arith)))
+  lumaAt-in f = lineAt-in F 6 (onLine f) at step
 
   pub chromaAt-in : (f : Short → Two) → ((k : ℕ) → k < 4 → F (at + k * step)) → Local F (chromaAt f at step)
   unfolding chromaAt
-  chromaAt-in f h =
-      local-through F (places at step 4) (places (at + step) step 2) (λ vs. fromTwo (f (toShort vs))) (all-places F 4 at step h) (inner 2 (λ k l. h k (omega arith)))
+  chromaAt-in f = lineAt-in F 2 (onShort f) at step
 
 -- ---- local to its own places: the length stays, and what comes out depends on the line's samples alone
 module _ (at step : ℕ) where
   pub lumaAt-local : (f : Line → Six) → Local (Among (places at step 8)) (lumaAt f at step)
   unfolding lumaAt
-  lumaAt-local f = local-line (places at step 8) (places (at + step) step 6) (λ vs. fromSix (f (toLine vs))) (inner-among 6 7 at step (lit≤ tt))
+  lumaAt-local f = local-line (places at step 8) (places (at + step) step 6) (onLine f) (inner-among 6 7 at step (lit≤ tt))
 
   pub chromaAt-local : (f : Short → Two) → Local (Among (places at step 4)) (chromaAt f at step)
   unfolding chromaAt
-  chromaAt-local f = local-line (places at step 4) (places (at + step) step 2) (λ vs. fromTwo (f (toShort vs))) (inner-among 2 3 at step (lit≤ tt))
+  chromaAt-local f = local-line (places at step 4) (places (at + step) step 2) (onShort f) (inner-among 2 3 at step (lit≤ tt))
 
 -- ---- lines with no place in common may be filtered in either order
 module _ (at step to by : ℕ) (xs : Plane) where

@@ -12,7 +12,7 @@ use Rattle.laws.proofs.Cond.{cond-both}
 use Rattle.laws.proofs.Places.{Within, all-at, through-within}
 use Rattle.lines.specs.Luma.{Line, kept, flatP, flatQ, closeTo, nudgeOf, innerOf, lumaNormal, strongSide, lumaStrong, lumaSamples, normalLine, strongLine, lumaLine}
 use Rattle.lines.specs.Chroma.{Short, same, chromaNormal, chromaStrong, chromaSamples, normalShort, strongShort, chromaLine}
-use Rattle.lines.specs.Planes.{toLine, fromSix, toShort, fromTwo, lumaAt, chromaAt}
+use Rattle.lines.specs.Planes.{toLine, fromSix, toShort, fromTwo, onLine, onShort, lumaAt, chromaAt}
 use Rattle.lines.specs.declared.luma.Six.{Six}
 use Rattle.lines.specs.declared.luma.Side.{Side}
 use Rattle.lines.specs.declared.shared.Two.{Two}
@@ -114,7 +114,7 @@ chroma-in top bs alpha beta tc0 l h =
 pub lumaAt-within : (top : ℕ) (f : Line → Six) → ((l : Line) → LineIn top l → SixIn top (f l)) → (at step : ℕ) (xs : Plane) → Within top xs → Within top (lumaAt f at step xs)
 unfolding lumaAt
 lumaAt-within top f h at step xs w =
-    through-within top (places at step 8) (places (at + step) step 6) (λ vs. fromSix (f (toLine vs))) xs (λ vs a. list (h (toLine vs) (read vs a))) w
+    through-within top (places at step 8) (places (at + step) step 6) (onLine f) xs (λ vs a. list (h (toLine vs) (read vs a))) w
   where
     read : (vs : List ℕ) → All (λ v. v ≤ top) vs → LineIn top (toLine vs)
     read vs a = record {
@@ -134,7 +134,7 @@ lumaAt-within top f h at step xs w =
 pub chromaAt-within : (top : ℕ) (f : Short → Two) → ((l : Short) → ShortIn top l → TwoIn top (f l)) → (at step : ℕ) (xs : Plane) → Within top xs → Within top (chromaAt f at step xs)
 unfolding chromaAt
 chromaAt-within top f h at step xs w =
-    through-within top (places at step 4) (places (at + step) step 2) (λ vs. fromTwo (f (toShort vs))) xs (λ vs a. list (h (toShort vs) (read vs a))) w
+    through-within top (places at step 4) (places (at + step) step 2) (onShort f) xs (λ vs a. list (h (toShort vs) (read vs a))) w
   where
     read : (vs : List ℕ) → All (λ v. v ≤ top) vs → ShortIn top (toShort vs)
     read vs a = record { p1 = all-at top vs a 0; p0 = all-at top vs a 1; q0 = all-at top vs a 2; q1 = all-at top vs a 3 }

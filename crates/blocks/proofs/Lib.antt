@@ -1,10 +1,13 @@
 pub mod Moved
-pub mod Stands
-pub mod Spots
+pub mod MovedRows
 pub mod Zips
+pub mod Parts
+pub mod Bands
 pub mod Loads
-pub mod Rows
 pub mod Segments
-pub mod Both
+pub mod Shapes
+pub mod Passes
+pub mod Lent
+pub mod EdgeLines
 pub mod Examples
 pub mod Refused

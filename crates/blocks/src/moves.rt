@@ -1,8 +1,9 @@
-// Samples moved between a plane and a block. A horizontal edge's rows are the block's; a vertical edge's 16 rows of 8 are turned by zips.
+// Samples moved between a luma plane and a block: a horizontal edge's rows are the block's, a vertical edge's 16
+// rows of 8 are turned by zips. `zip` and `copy8` serve chroma too.
 ghost use mathlib.Core.Path.{_≡_};
 ghost use Prim.Native.Nat.{_+_, _*_, _≤_};
 ghost use lib.ListN.{length};
-ghost use Rattle.blocks.specs.Moves.{copied, loaded, stored, zipped};
+ghost use Rattle.blocks.specs.Moves.{copied, movedRows, blank, zipped};
 
 // The two halves of a, one from each in turn.
 pub fn zip(a: [u8; 128]) -> [u8; 128]
@@ -25,7 +26,7 @@ fn copy16(t: &mut [u8], to: usize, p: &[u8], from: usize)
     }
 }
 
-fn copy8(t: &mut [u8], to: usize, p: &[u8], from: usize)
+pub fn copy8(t: &mut [u8], to: usize, p: &[u8], from: usize)
     requires { ⌜ (to + 8 ≤ length (now t)) × (from + 8 ≤ length (now p)) ⌝ }
     ensures { λ _. ⌜ now (t .exit) ≡ copied 8 to from (now (p .entry)) (now (t .entry)) ⌝ }
 {
@@ -37,41 +38,41 @@ fn copy8(t: &mut [u8], to: usize, p: &[u8], from: usize)
 // 8 rows of 16.
 pub fn load_rows(p: &[u8], at: usize, stride: usize) -> [u8; 128]
     requires { ⌜ at + 7 * stride + 16 ≤ length (now p) ⌝ }
-    ensures { λ r. ⌜ r ≡ loaded 8 16 at stride (now (p .entry)) ⌝ }
+    ensures { λ r. ⌜ r ≡ movedRows 8 16 0 16 at stride (now (p .entry)) blank ⌝ }
 {
     let mut t = [0u8; 128];
     for r in 0..8usize {
-        copy16(&mut t, 16 * r, p, at + r * stride);
+        copy16(&mut t, r * 16, p, at + r * stride);
     }
     t
 }
 
 pub fn store_rows(p: &mut [u8], at: usize, stride: usize, t: [u8; 128])
     requires { ⌜ at + 7 * stride + 16 ≤ length (now p) ⌝ }
-    ensures { λ _. ⌜ now (p .exit) ≡ stored 8 16 at stride t (now (p .entry)) ⌝ }
+    ensures { λ _. ⌜ now (p .exit) ≡ movedRows 8 16 at stride 0 16 t (now (p .entry)) ⌝ }
 {
     for r in 0..8usize {
-        copy16(p, at + r * stride, &t, 16 * r);
+        copy16(p, at + r * stride, &t, r * 16);
     }
 }
 
 // 16 rows of 8.
 pub fn load_cols(p: &[u8], at: usize, stride: usize) -> [u8; 128]
     requires { ⌜ at + 15 * stride + 8 ≤ length (now p) ⌝ }
-    ensures { λ r. ⌜ r ≡ loaded 16 8 at stride (now (p .entry)) ⌝ }
+    ensures { λ r. ⌜ r ≡ movedRows 16 8 0 8 at stride (now (p .entry)) blank ⌝ }
 {
     let mut t = [0u8; 128];
     for r in 0..16usize {
-        copy8(&mut t, 8 * r, p, at + r * stride);
+        copy8(&mut t, r * 8, p, at + r * stride);
     }
     t
 }
 
 pub fn store_cols(p: &mut [u8], at: usize, stride: usize, t: [u8; 128])
     requires { ⌜ at + 15 * stride + 8 ≤ length (now p) ⌝ }
-    ensures { λ _. ⌜ now (p .exit) ≡ stored 16 8 at stride t (now (p .entry)) ⌝ }
+    ensures { λ _. ⌜ now (p .exit) ≡ movedRows 16 8 at stride 0 8 t (now (p .entry)) ⌝ }
 {
     for r in 0..16usize {
-        copy8(p, at + r * stride, &t, 8 * r);
+        copy8(p, at + r * stride, &t, r * 8);
     }
 }

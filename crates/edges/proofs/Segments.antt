@@ -1,15 +1,15 @@
--- A luma edge by the strengths of its four segments, as `blocks` is lent them. Assumes nothing.
-use mathlib.Core.Path.{_≡_, refl}
+-- An edge by the strengths of its four segments, as `blocks` is lent them. Assumes nothing.
+use mathlib.Core.Path.{_≡_, refl, ap, _∙_}
 use mathlib.Core.List.{[], _∷_}
 use Prim.Native.Nat.{ℕ, zero, suc, _+_, _*_, _/_, _<_}
 use native.Mathlib.Omega.{arith}
 use lib.ListN.{getD}
-use Rattle.laws.specs.Loop.{upTo}
 use Rattle.laws.specs.Places.{Plane}
 use Rattle.laws.proofs.Loop.{upTo-same}
-use Rattle.lines.specs.Planes.{lumaAt}
-use Rattle.blocks.specs.Lines.{strengthAt}
-use Rattle.edges.specs.Edge.{LumaRule, lumaEdge}
+use Rattle.lines.specs.Planes.{lumaAt, chromaAt}
+use Rattle.blocks.specs.Lines.{lumaWith, chromaWith, longLines, shortLines}
+use Rattle.blocks.specs.declared.lanes.Thresholds.{Thresholds}
+use Rattle.edges.specs.Edge.{lumaEdge, chromaEdge}
 use Rattle.edges.specs.Levels.{fourOf}
 
 of-four : (bs : ℕ → ℕ) (q : ℕ) → q < 4 → getD (bs 0 ∷ bs 1 ∷ bs 2 ∷ bs 3 ∷ []) q 0 ≡ bs q
@@ -22,7 +22,18 @@ of-four bs (suc (suc (suc (suc q)))) h = absurd (none h)
     none : suc (suc (suc (suc q))) < 4 → ⊥
     none h = omega arith
 
-pub segments : (rule : LumaRule) (bs : ℕ → ℕ) (at along step : ℕ) (s : Plane)
-    → upTo 16 (λ k. lumaAt (rule (strengthAt (fourOf bs) k)) (at + k * along) step) s ≡ lumaEdge rule bs at along step s
-unfolding lumaEdge
-segments rule bs at along step s = upTo-same 16 _ _ s (λ k t h. λ i. lumaAt (rule (of-four bs (k / 4) (omega arith) i)) (at + k * along) step t)
+module _ (bs : ℕ → ℕ) (l : Thresholds) (at along step : ℕ) (s : Plane) where
+  pub long-segments : longLines (fourOf bs) l at along step s ≡ lumaEdge (lumaWith l) bs at along step s
+  unfolding longLines lumaEdge
+  long-segments = upTo-same 16 _ _ s (λ k t h. λ i. lumaAt (lumaWith l (of-four bs (k / 4) (omega arith) i)) (at + k * along) step t)
+
+  pub short-segments : shortLines (fourOf bs) l at along step s ≡ chromaEdge (chromaWith l) bs at along step s
+  unfolding shortLines chromaEdge
+  short-segments = upTo-same 8 _ _ s (λ k t h. λ i. chromaAt (chromaWith l (of-four bs (k / 2) (omega arith) i)) (at + k * along) step t)
+
+-- two chroma edges: the first by the strengths bs and the thresholds l, the second by ds and m
+pub pair-segments : (bs ds : ℕ → ℕ) (l m : Thresholds) (at along step : ℕ) (s : Plane)
+    → shortLines (fourOf ds) m (at + 4 * step) along step (shortLines (fourOf bs) l at along step s)
+    ≡ chromaEdge (chromaWith m) ds (at + 4 * step) along step (chromaEdge (chromaWith l) bs at along step s)
+pair-segments bs ds l m at along step s =
+    short-segments ds m (at + 4 * step) along step _ ∙ ap (chromaEdge (chromaWith m) ds (at + 4 * step) along step) (short-segments bs l at along step s)

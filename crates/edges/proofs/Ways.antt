@@ -1,8 +1,9 @@
--- The edges of a direction one by one, and the two directions one after the other, as code that calls makes them: the strengths of a macroblock begin at n in
--- the list f of them all, and `q` is the place of an edge's first q0. Assumes nothing.
-use mathlib.Core.Path.{_≡_, _∙_}
-use mathlib.Core.Bool.{Bool, true, cond, not}
-use Prim.Native.Nat.{ℕ, _+_, _-_, _*_}
+-- The edges of a direction one by one, and the two directions one after the other, as code that calls makes
+-- them: the strengths of a macroblock begin at n in the list f of them all, and `q` is the place of an edge's
+-- first q0. Assumes nothing.
+use mathlib.Core.Path.{_≡_, refl, _∙_}
+use mathlib.Core.Bool.{Bool, true, false, cond, not}
+use Prim.Native.Nat.{ℕ, _+_, _-_, _*_, _≤_}
 use native.Mathlib.Omega.{arith}
 use Rattle.laws.specs.Places.{Plane}
 use Rattle.laws.proofs.Loop.{upTo-none, upTo-more}
@@ -53,6 +54,21 @@ module _ (f : ℕ → ℕ) (n origin along step : ℕ) where
     where
       edge : ChromaRule → (ℕ → ℕ) → ℕ → Plane → Plane
       edge rule bs at = chromaEdge rule bs at along step
+
+-- ---- the chroma edges as the code has them: both, or the one inside where there is no border
+module _ (f : ℕ → ℕ) (n origin along step : ℕ) (border inside : ChromaRule) (s : Plane) {s2 : Plane} where
+  pub chroma-near : 2 * step ≤ origin
+      → s2 ≡ chromaEdge inside (after (n + 8) f) (origin - 2 * step + 4 * step) along step (chromaEdge border (after n f) (origin - 2 * step) along step s)
+      → s2 ≡ chromaWay border inside true (after n f) origin along step s
+  chroma-near h e =
+      let q : origin - 2 * step + 4 * step ≡ origin + 4 * step - 2 * step = omega arith in
+      chroma-two f n origin along step border inside true s refl
+      (e ∙ (λ i. chromaEdge inside (after (n + 8) f) (q i) along step (chromaEdge border (after n f) (origin - 2 * step) along step s)))
+
+  pub chroma-far : s2 ≡ chromaEdge inside (after (n + 8) f) (origin + 2 * step) along step s → s2 ≡ chromaWay border inside false (after n f) origin along step s
+  chroma-far e =
+      let q : origin + 2 * step ≡ origin + 4 * step - 2 * step = omega arith in
+      chroma-two f n origin along step border inside false s refl (e ∙ (λ i. chromaEdge inside (after (n + 8) f) (q i) along step s))
 
 -- ---- both directions
 module _ (f : ℕ → ℕ) (n origin stride : ℕ) where

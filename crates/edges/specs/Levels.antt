@@ -1,34 +1,38 @@
--- The rules by the thresholds that an edge is handed, and the thresholds of a macroblock's edges: what the code computes before it touches a line.
+-- The rules by the thresholds that an edge is handed, and the thresholds of a macroblock's edges: what the
+-- code computes before it touches a line.
 use Prim.Native.Nat.{ℕ}
 use lib.IntN.{ℤ}
-use Rattle.lines.specs.Thresholds.{tcBy, average, chromaQp, thresholdsOf}
-use Rattle.lines.specs.Luma.{kept, lumaLine}
-use Rattle.lines.specs.Chroma.{same, chromaLine}
+use Rattle.lines.specs.Thresholds.{average, chromaQp, thresholdsOf}
 use Rattle.lines.specs.declared.limits.Limits.{Limits}
 use Rattle.lines.specs.declared.limits.Limits.the-variants.{Filtered, Nothing}
+use Rattle.blocks.specs.Lines.{lumaWith, chromaWith}
+use Rattle.blocks.specs.declared.chroma.Both.{Both}
 use Rattle.blocks.specs.declared.lanes.Four.{Four}
+use Rattle.blocks.specs.declared.lanes.Thresholds.{Thresholds}
 use Rattle.edges.specs.Edge.{LumaRule, ChromaRule}
 use Rattle.edges.specs.declared.levels.Three.{Three}
+use Rattle.edges.specs.declared.levels.Way.{Way}
 use Rattle.edges.specs.declared.levels.Levels.{Levels}
 
 -- the strengths of an edge's four segments
 abbrev pub fourOf : (ℕ → ℕ) → Four
 fourOf bs = record { a = bs 0; b = bs 1; c = bs 2; d = bs 3 }
 
-abbrev pub lumaWith : ℕ → ℕ → ℕ → ℕ → ℕ → LumaRule
-lumaWith alpha beta tc1 tc2 tc3 bs = lumaLine 255 bs alpha beta (tcBy bs tc1 tc2 tc3)
+-- the thresholds that an edge is handed, as numbers: where nothing is to be filtered alpha is 0, which leaves
+-- each line
+abbrev pub numbersOf : Limits → Thresholds
+numbersOf (Filtered alpha beta tc1 tc2 tc3) = record { alpha = alpha; beta = beta; tc1 = tc1; tc2 = tc2; tc3 = tc3 }
+numbersOf Nothing = record { alpha = 0; beta = 0; tc1 = 0; tc2 = 0; tc3 = 0 }
 
-abbrev pub chromaWith : ℕ → ℕ → ℕ → ℕ → ℕ → ChromaRule
-chromaWith alpha beta tc1 tc2 tc3 bs = chromaLine 255 bs alpha beta (tcBy bs tc1 tc2 tc3)
-
--- where nothing is to be filtered each line is kept
 abbrev pub lumaBy : Limits → LumaRule
-lumaBy (Filtered alpha beta tc1 tc2 tc3) = lumaWith alpha beta tc1 tc2 tc3
-lumaBy Nothing = λ bs. kept
+lumaBy m = lumaWith (numbersOf m)
 
 abbrev pub chromaBy : Limits → ChromaRule
-chromaBy (Filtered alpha beta tc1 tc2 tc3) = chromaWith alpha beta tc1 tc2 tc3
-chromaBy Nothing = λ bs. same
+chromaBy m = chromaWith (numbersOf m)
+
+-- .. of an edge in both chroma planes
+abbrev pub bothOf : (ℕ → ℕ) → Limits → Limits → Both
+bothOf bs cb cr = record { s = fourOf bs; u = numbersOf cb; v = numbersOf cr }
 
 -- of the left, the top and the inner edges, by the macroblock's QP and those beside and above it
 abbrev pub threeOf : ℤ → ℤ → ℤ → ℤ → ℤ → Three
@@ -37,6 +41,13 @@ threeOf own beside above a b = record {
   top = thresholdsOf 1 (average above own) a b;
   inner = thresholdsOf 1 own a b;
 }
+
+-- of the vertical and of the horizontal edges
+abbrev pub acrossOf : Three → Way
+acrossOf m = record { border = m .left; inside = m .inner }
+
+abbrev pub downOf : Three → Way
+downOf m = record { border = m .top; inside = m .inner }
 
 abbrev pub levelsOf : ℤ → ℤ → ℤ → ℤ → ℤ → ℤ → Levels
 levelsOf own beside above a b chroma = record {

@@ -1,31 +1,22 @@
-// One edge of one plane: luma sixteen lines at a time, chroma line by line. `at` is the place of its first line's first sample, `along` the way from a line to
-// the next and `step` the way across, so that vertical and horizontal edges are one function. The four strengths stand at `first` in `bs`.
+// Edges of a macroblock, whose lines are filtered by `blocks`. `at` is the place of the first line's first
+// sample, `along` the way from a line to the next and `step` the way across, so that vertical and horizontal
+// edges are one function. The four strengths of an edge stand at `first` in `bs`.
 ghost use mathlib.Core.Path.{_≡_};
 ghost use Prim.Native.Nat.{_+_, _*_, _<_, _≤_};
 ghost use lib.ListN.{length};
-ghost use Rattle.lines.specs.Thresholds.{tcBy};
 ghost use Rattle.blocks.specs.Lines.{Straight};
 ghost use Rattle.edges.specs.Edge.{lumaEdge, chromaEdge};
-ghost use Rattle.edges.specs.Levels.{fourOf, chromaWith, lumaBy, chromaBy};
+ghost use Rattle.edges.specs.Levels.{fourOf, numbersOf, bothOf, lumaBy, chromaBy};
 ghost use Rattle.edges.specs.Macroblock.{after};
 ghost use Rattle.edges.specs.Picture.{entries};
+use crate::levels::Way;
+use blocks::chroma::Both;
+use blocks::chroma::chroma_lines;
+use blocks::chroma::chroma_pair;
 use blocks::lanes::Four;
+use blocks::lanes::Thresholds;
 use blocks::luma::luma_lines;
 use lines::limits::Limits;
-use lines::planes::filter_chroma_line;
-
-// tC0 of a strength.
-fn tc0(bs: u8, tc1: u8, tc2: u8, tc3: u8) -> u8
-    ensures { λ r. ⌜ r ≡ tcBy bs tc1 tc2 tc3 ⌝ }
-{
-    if bs == 1 {
-        return tc1;
-    }
-    if bs == 2 {
-        return tc2;
-    }
-    tc3
-}
 
 // The strengths of an edge's four segments.
 fn four(bs: &[u8], first: usize) -> Four
@@ -40,7 +31,46 @@ fn four(bs: &[u8], first: usize) -> Four
     }
 }
 
-// A luma edge. Where no line can change, none is touched.
+// An alpha of 0 where no line can change.
+fn numbers(limits: Limits) -> Thresholds
+    ensures { λ r. ⌜ r ≡ numbersOf limits ⌝ }
+{
+    let Limits::Filtered {
+        alpha,
+        beta,
+        tc1,
+        tc2,
+        tc3,
+    } = limits
+    else {
+        return Thresholds {
+            alpha: 0,
+            beta: 0,
+            tc1: 0,
+            tc2: 0,
+            tc3: 0,
+        };
+    };
+    Thresholds {
+        alpha,
+        beta,
+        tc1,
+        tc2,
+        tc3,
+    }
+}
+
+fn both(bs: &[u8], first: usize, cb: Limits, cr: Limits) -> Both
+    requires { ⌜ first + 4 ≤ length (now bs) ⌝ }
+    ensures { λ r. ⌜ r ≡ bothOf (after first (entries (now (bs .entry)))) cb cr ⌝ }
+{
+    let s = four(bs, first);
+    let u = numbers(cb);
+    let v = numbers(cr);
+    Both { s, u, v }
+}
+
+// A luma edge.
 pub fn luma_edge(
     plane: &mut [u8],
     at: usize,
@@ -51,48 +81,15 @@ pub fn luma_edge(
     limits: Limits,
 )
     requires { ⌜ (at + 15 * along + 7 * step < length (now plane)) × (first + 4 ≤ length (now bs)) ⌝ }
-    requires { ⌜ Straight along step ⌝ }
+    requires { ⌜ Straight 16 along step ⌝ }
     ensures { λ _. ⌜ now (plane .exit) ≡ lumaEdge (lumaBy limits) (after first (entries (now (bs .entry)))) at along step (now (plane .entry)) ⌝ }
 {
-    let Limits::Filtered {
-        alpha,
-        beta,
-        tc1,
-        tc2,
-        tc3,
-    } = limits
-    else {
-        return;
-    };
     let s = four(bs, first);
-    luma_lines(plane, at, along, step, s, alpha, beta, tc1, tc2, tc3);
+    let l = numbers(limits);
+    luma_lines(plane, at, along, step, s, l);
 }
 
-// Eight chroma lines, two of each strength.
-fn chroma_lines(
-    plane: &mut [u8],
-    at: usize,
-    along: usize,
-    step: usize,
-    bs: &[u8],
-    first: usize,
-    alpha: u8,
-    beta: u8,
-    tc1: u8,
-    tc2: u8,
-    tc3: u8,
-)
-    requires { ⌜ (at + 7 * along + 3 * step < length (now plane)) × (first + 4 ≤ length (now bs)) ⌝ }
-    ensures { λ _. ⌜ now (plane .exit) ≡ chromaEdge (chromaWith alpha beta tc1 tc2 tc3) (after first (entries (now (bs .entry)))) at along step (now (plane .entry)) ⌝ }
-{
-    for k in 0..8usize {
-        let s = bs[first + k / 2];
-        let tc = tc0(s, tc1, tc2, tc3);
-        filter_chroma_line(plane, at + k * along, step, s, alpha, beta, tc);
-    }
-}
-
-// A chroma edge. Where no line can change, none is touched.
+// An edge of one chroma plane.
 pub fn chroma_edge(
     plane: &mut [u8],
     at: usize,
@@ -105,27 +102,33 @@ pub fn chroma_edge(
     requires { ⌜ (at + 7 * along + 3 * step < length (now plane)) × (first + 4 ≤ length (now bs)) ⌝ }
     ensures { λ _. ⌜ now (plane .exit) ≡ chromaEdge (chromaBy limits) (after first (entries (now (bs .entry)))) at along step (now (plane .entry)) ⌝ }
 {
-    let Limits::Filtered {
-        alpha,
-        beta,
-        tc1,
-        tc2,
-        tc3,
-    } = limits
-    else {
-        return;
-    };
-    chroma_lines(
-        plane,
-        at,
-        along,
-        step,
-        bs,
-        first,
-        alpha,
-        beta,
-        tc1,
-        tc2,
-        tc3,
-    );
+    let s = four(bs, first);
+    let l = numbers(limits);
+    chroma_lines(plane, at, along, step, s, l);
+}
+
+// Both edges of a direction in both chroma planes, by the strengths of luma's edges 0 and 2.
+pub fn chroma_edges(
+    u: &mut [u8],
+    v: &mut [u8],
+    at: usize,
+    along: usize,
+    step: usize,
+    bs: &[u8],
+    first: usize,
+    cb: Way,
+    cr: Way,
+)
+    requires { ⌜ (at + 7 * along + 7 * step < length (now u)) × (at + 7 * along + 7 * step < length (now v)) × (first + 12 ≤ length (now bs)) ⌝ }
+    requires { ⌜ Straight 8 along step ⌝ }
+    ensures { λ _. ⌜ now (u .exit) ≡ chromaEdge (chromaBy (cb .inside)) (after (first + 8) (entries (now (bs .entry)))) (at + 4 * step) along step (chromaEdge (chromaBy (cb .border)) (after first (entries (now (bs .entry)))) at along step (now (u .entry))) ⌝ }
+    ensures { λ _. ⌜ now (v .exit) ≡ chromaEdge (chromaBy (cr .inside)) (after (first + 8) (entries (now (bs .entry)))) (at + 4 * step) along step (chromaEdge (chromaBy (cr .border)) (after first (entries (now (bs .entry)))) at along step (now (v .entry))) ⌝ }
+{
+    let bu = cb.border;
+    let bv = cr.border;
+    let iu = cb.inside;
+    let iv = cr.inside;
+    let border = both(bs, first, bu, bv);
+    let inside = both(bs, first + 8, iu, iv);
+    chroma_pair(u, v, at, along, step, border, inside);
 }

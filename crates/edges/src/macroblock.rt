@@ -1,16 +1,18 @@
-// One macroblock in one plane: its vertical edges, then its horizontal ones. Its 32 strengths stand at `first` in `bs`.
+// One macroblock: its vertical edges, then its horizontal ones. Its 32 strengths stand at `first` in `bs`.
 ghost use mathlib.Core.Path.{_≡_};
 ghost use Prim.Native.Nat.{_+_, _-_, _*_, _<_, _≤_};
 ghost use mathlib.Core.Bool.{true, cond};
 ghost use lib.ListN.{length};
 ghost use Rattle.blocks.specs.Lines.{Straight};
-ghost use Rattle.edges.specs.Edge.{lumaEdge, chromaEdge};
-ghost use Rattle.edges.specs.Levels.{lumaBy, chromaBy};
+ghost use Rattle.edges.specs.Edge.{lumaEdge};
+ghost use Rattle.edges.specs.Levels.{lumaBy, chromaBy, acrossOf, downOf};
 ghost use Rattle.edges.specs.Macroblock.{after, idleOf, lumaWay, chromaWay, lumaBoth, chromaBoth};
 ghost use Rattle.edges.specs.Picture.{entries};
 use crate::edge::chroma_edge;
+use crate::edge::chroma_edges;
 use crate::edge::luma_edge;
 use crate::levels::Three;
+use crate::levels::Way;
 use lines::limits::Limits;
 
 // An edge, if it is to be filtered. `q` is the place of its first line's q0.
@@ -25,29 +27,11 @@ fn luma_edge_if(
     limits: Limits,
 )
     requires { ⌜ (on ≡ true → 4 * step ≤ q) × (q + 15 * along + 3 * step < length (now plane)) × (first + 4 ≤ length (now bs)) ⌝ }
-    requires { ⌜ Straight along step ⌝ }
+    requires { ⌜ Straight 16 along step ⌝ }
     ensures { λ _. ⌜ now (plane .exit) ≡ cond on (lumaEdge (lumaBy limits) (after first (entries (now (bs .entry)))) (q - 4 * step) along step (now (plane .entry))) (now (plane .entry)) ⌝ }
 {
     if on {
         luma_edge(plane, q - 4 * step, along, step, bs, first, limits);
-    }
-}
-
-fn chroma_edge_if(
-    on: bool,
-    plane: &mut [u8],
-    q: usize,
-    along: usize,
-    step: usize,
-    bs: &[u8],
-    first: usize,
-    limits: Limits,
-)
-    requires { ⌜ (on ≡ true → 2 * step ≤ q) × (q + 7 * along + step < length (now plane)) × (first + 4 ≤ length (now bs)) ⌝ }
-    ensures { λ _. ⌜ now (plane .exit) ≡ cond on (chromaEdge (chromaBy limits) (after first (entries (now (bs .entry)))) (q - 2 * step) along step (now (plane .entry))) (now (plane .entry)) ⌝ }
-{
-    if on {
-        chroma_edge(plane, q - 2 * step, along, step, bs, first, limits);
     }
 }
 
@@ -65,7 +49,7 @@ fn luma_way(
     inside: Limits,
 )
     requires { ⌜ (near ≡ true → 4 * step ≤ origin) × (origin + 15 * along + 15 * step < length (now plane)) × (first + 16 ≤ length (now bs)) ⌝ }
-    requires { ⌜ Straight along step ⌝ }
+    requires { ⌜ Straight 16 along step ⌝ }
     ensures { λ _. ⌜ now (plane .exit) ≡ lumaWay (lumaBy border) (lumaBy inside) near t8 (after first (entries (now (bs .entry)))) origin along step (now (plane .entry)) ⌝ }
 {
     let q1 = origin + 4 * step;
@@ -77,24 +61,51 @@ fn luma_way(
     luma_edge_if(!t8, plane, q3, along, step, bs, first + 12, inside);
 }
 
-// The chroma edges of one direction, with the strengths of luma's edges 0 and 2.
+// The limits of the vertical edges.
+fn across(m: Three) -> Way
+    ensures { λ r. ⌜ r ≡ acrossOf m ⌝ }
+{
+    let border = m.left;
+    let inside = m.inner;
+    Way { border, inside }
+}
+
+// The limits of the horizontal edges.
+fn down(m: Three) -> Way
+    ensures { λ r. ⌜ r ≡ downOf m ⌝ }
+{
+    let border = m.top;
+    let inside = m.inner;
+    Way { border, inside }
+}
+
+// The chroma edges of one direction in both planes, with the strengths of luma's edges 0 and 2. At the
+// picture's border there is only the one inside.
 fn chroma_way(
-    plane: &mut [u8],
+    u: &mut [u8],
+    v: &mut [u8],
     near: bool,
     origin: usize,
     along: usize,
     step: usize,
     bs: &[u8],
     first: usize,
-    border: Limits,
-    inside: Limits,
+    cb: Way,
+    cr: Way,
 )
-    requires { ⌜ (near ≡ true → 2 * step ≤ origin) × (origin + 7 * along + 7 * step < length (now plane)) × (first + 16 ≤ length (now bs)) ⌝ }
-    ensures { λ _. ⌜ now (plane .exit) ≡ chromaWay (chromaBy border) (chromaBy inside) near (after first (entries (now (bs .entry)))) origin along step (now (plane .entry)) ⌝ }
+    requires { ⌜ (near ≡ true → 2 * step ≤ origin) × (origin + 7 * along + 7 * step < length (now u)) × (origin + 7 * along + 7 * step < length (now v)) × (first + 16 ≤ length (now bs)) ⌝ }
+    requires { ⌜ Straight 8 along step ⌝ }
+    ensures { λ _. ⌜ now (u .exit) ≡ chromaWay (chromaBy (cb .border)) (chromaBy (cb .inside)) near (after first (entries (now (bs .entry)))) origin along step (now (u .entry)) ⌝ }
+    ensures { λ _. ⌜ now (v .exit) ≡ chromaWay (chromaBy (cr .border)) (chromaBy (cr .inside)) near (after first (entries (now (bs .entry)))) origin along step (now (v .entry)) ⌝ }
 {
-    let q = origin + 4 * step;
-    chroma_edge_if(near, plane, origin, along, step, bs, first, border);
-    chroma_edge_if(true, plane, q, along, step, bs, first + 8, inside);
+    if near {
+        chroma_edges(u, v, origin - 2 * step, along, step, bs, first, cb, cr);
+        return;
+    }
+    let iu = cb.inside;
+    let iv = cr.inside;
+    chroma_edge(u, origin + 2 * step, along, step, bs, first + 8, iu);
+    chroma_edge(v, origin + 2 * step, along, step, bs, first + 8, iv);
 }
 
 // All luma edges, in a plane whose rows are `stride` samples; `origin` is the macroblock's first.
@@ -120,25 +131,31 @@ pub fn luma(
     luma_way(plane, top, t8, origin, 1, stride, bs, first + 16, t, i);
 }
 
-// All edges of one chroma plane.
+// All edges of both chroma planes.
 pub fn chroma(
-    plane: &mut [u8],
+    u: &mut [u8],
+    v: &mut [u8],
     left: bool,
     top: bool,
     origin: usize,
     stride: usize,
     bs: &[u8],
     first: usize,
-    limits: Three,
+    cb: Three,
+    cr: Three,
 )
-    requires { ⌜ (left ≡ true → 2 * 1 ≤ origin) × (top ≡ true → 2 * stride ≤ origin) × (origin + 7 * stride + 7 < length (now plane)) × (first + 32 ≤ length (now bs)) ⌝ }
-    ensures { λ _. ⌜ now (plane .exit) ≡ chromaBoth (chromaBy (limits .left)) (chromaBy (limits .top)) (chromaBy (limits .inner)) left top (after first (entries (now (bs .entry)))) origin stride (now (plane .entry)) ⌝ }
+    requires { ⌜ (left ≡ true → 2 * 1 ≤ origin) × (top ≡ true → 2 * stride ≤ origin) × (origin + 7 * stride + 7 < length (now u)) × (origin + 7 * stride + 7 < length (now v)) × (first + 32 ≤ length (now bs)) ⌝ }
+    requires { ⌜ 8 ≤ stride ⌝ }
+    ensures { λ _. ⌜ now (u .exit) ≡ chromaBoth (chromaBy (cb .left)) (chromaBy (cb .top)) (chromaBy (cb .inner)) left top (after first (entries (now (bs .entry)))) origin stride (now (u .entry)) ⌝ }
+    ensures { λ _. ⌜ now (v .exit) ≡ chromaBoth (chromaBy (cr .left)) (chromaBy (cr .top)) (chromaBy (cr .inner)) left top (after first (entries (now (bs .entry)))) origin stride (now (v .entry)) ⌝ }
 {
-    let l = limits.left;
-    let t = limits.top;
-    let i = limits.inner;
-    chroma_way(plane, left, origin, stride, 1, bs, first, l, i);
-    chroma_way(plane, top, origin, 1, stride, bs, first + 16, t, i);
+    let horizontal = first + 16;
+    let lu = across(cb);
+    let lv = across(cr);
+    let tu = down(cb);
+    let tv = down(cr);
+    chroma_way(u, v, left, origin, stride, 1, bs, first, lu, lv);
+    chroma_way(u, v, top, origin, 1, stride, bs, horizontal, tu, tv);
 }
 
 // All 32 strengths are 0.

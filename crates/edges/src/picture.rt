@@ -1,5 +1,5 @@
-// Macroblocks and rows of a picture of three planes, w macroblocks wide. In raster order each macroblock has a QP, an 8x8 flag (an empty grid: all 0) and 32
-// strengths.
+// Macroblocks and rows of a picture of three planes, w macroblocks wide. In raster order each macroblock has
+// a QP, an 8x8 flag (an empty grid: all 0) and 32 strengths.
 ghost use mathlib.Core.Path.{_≡_};
 ghost use mathlib.Core.Bool.{false};
 ghost use Prim.Native.Nat.{_+_, _*_, _<_, _≤_};
@@ -58,8 +58,7 @@ pub fn macroblock(
     let at = 64 * p + 8 * x;
     let stride = 8 * w;
     luma(y, left, top, t8, 256 * p + 16 * x, 16 * w, bs, first, ly);
-    chroma(u, left, top, at, stride, bs, first, lc);
-    chroma(v, left, top, at, stride, bs, first, lc);
+    chroma(u, v, left, top, at, stride, bs, first, lc, lc);
 }
 
 fn one_row(

@@ -1,4 +1,5 @@
--- `macroblock`: with all strengths 0 nothing would change; else the calls make the definition's step. Assumes nothing.
+-- `macroblock`: with all strengths 0 nothing would change; else the calls make the definition's step. Assumes
+-- nothing.
 use borrow.Author.Needs.{needs}
 use borrow.Author.Tests.{ltb-true}
 use mathlib.Core.Path.{sym, _∙_}
@@ -30,23 +31,17 @@ luma-requires c κs =
 
 chroma-requires : tie.Need-chroma-requires
 chroma-requires c κs =
-    let s = c .before .before .before .before .before .before .before .before .before .before .before .before .before .before .before .before .before in
-    (λ h. omega (arith, s .pre, ltb-true), λ h. omega (arith, row-pos (s .args .row) (s .args .w) (ltb-true 0 (s .args .row) h)), omega (arith, s .pre), omega (arith, s .pre))
-
-chroma-requires-2 : tie.Need-chroma-requires-2
-chroma-requires-2 c κs =
-    let s = c .before .before .before .before .before .before .before .before .before .before .before .before .before .before .before .before .before .before .before .before .before in
-    (λ h. omega (arith, s .pre, ltb-true), λ h. omega (arith, row-pos (s .args .row) (s .args .w) (ltb-true 0 (s .args .row) h)), omega (arith, s .pre), omega (arith, s .pre))
+    let s = c .before .before .before .before .before .before .before .before .before .before .before .before .before .before .before .before .before .before in
+    ((λ h. omega (arith, s .pre, ltb-true), λ h. omega (arith, row-pos (s .args .row) (s .args .w) (ltb-true 0 (s .args .row) h)), omega (arith, s .pre), omega (arith, s .pre), omega (arith, s .pre)), omega (arith, s .pre))
 
 returns-2 : tie.Need-returns-2
 returns-2 c =
-    let v = c .before .before in
-    let u = v .before .before .before .before in
-    let y = u .before .before .before .before in
+    let z = c .before .before .before .before in
+    let y = z .before .before .before .before .before in
     let m = y .before .before .before .before in
     let a = m .before .before .before .before .before .before .before .before .before .before .args in
     made (a .w) (a .x) (a .row) (a .bs .now) (a .qps .now) (a .t8s .now) (a .o) (a .y .now) (a .u .now) (a .v .now) _ _ (m .before .flag .ensures) (m .of-macroblock .ensures)
-    (y .luma .ensures) (u .chroma .ensures) (v .chroma2 .ensures)
+    (y .luma .ensures) (z .chroma .ensures .0) (z .chroma .ensures .1)
 
 pub macroblock-spec : {M : Type 1} → statement M
 macroblock-spec =
@@ -69,7 +64,6 @@ macroblock-spec =
     (λ c. search needs)
     luma-requires
     chroma-requires
-    chroma-requires-2
     (λ c. search needs)
     (λ c. search needs)
     (λ c. search needs)

@@ -1,23 +1,50 @@
 //! The clock of request [13]: whole pictures of 720 by 576 through the archive and through the Rust original.
 //!
-//! Both are optimised builds. Each picture is filtered by both, one after the other, in turn first; planes are copied
-//! and strengths converted before the clock starts; the clock is the thread's CPU time, which other programs on the
-//! machine do not add to. The two results are compared as well.
+//! Both are optimised builds. Each picture is filtered in every way, one after the other, in turn first; its planes
+//! are copied and strengths converted before the clock starts; the clock is the thread's CPU time, which other programs
+//! on the machine do not add to. What counts is the ratio of two times on the SAME picture, and its median over all
+//! pictures: a machine whose pace drifts during the run moves both times of a picture and hardly their ratio. The
+//! filtered planes are compared as well.
 
 mod cpu_time;
+mod picture;
+mod ways;
 
-use cpu_time::seconds;
-use inputs::{strengths, texture, Content, Rng, Texture};
+use inputs::{Content, Rng, Texture};
+use picture::{Picture, H, W};
 use std::process::ExitCode;
+use ways::Way;
 
-/// 720 by 576 in macroblocks.
-const W: usize = 45;
-const H: usize = 36;
-/// The archive takes no longer than the original. Request [13] would allow 1.5.
-const BOUND: f64 = 1.0;
+/// What is timed, and the most that the whole-picture call may take of the original's time: about a tenth above what
+/// docs/SPEED.md has for the slower kind of machine, and far below the 1.5 that request [13] allows.
+const SUBJECTS: [Subject; 4] = [
+    Subject { name: "intra", content: Content::Intra, look: CODED, bound: 0.30 },
+    Subject { name: "mixed", content: Content::Mixed, look: CODED, bound: 0.34 },
+    Subject { name: "still", content: Content::Still, look: CODED, bound: 0.50 },
+    Subject { name: "noisy", content: Content::Intra, look: NOISY, bound: 0.28 },
+];
+
+/// The most that visits to a whole picture may take of the time of the original's whole-picture call.
+const VISITS_BOUND: f64 = 1.0;
+
+/// Levels of 4x4 blocks up to 4 off either way, as quantising leaves them; and noise, of which no branch can foresee
+/// which lines pass the thresholds. Each picture gets a base of its own.
+const CODED: Texture = Texture { step: 4, noise: 1, base: 0 };
+const NOISY: Texture = Texture { step: 10, noise: 20, base: 0 };
+
+/// The first pictures warm the caches up and do not count.
+const WARM: usize = 4;
+
+struct Subject {
+    name: &'static str,
+    content: Content,
+    look: Texture,
+    bound: f64,
+}
 
 const HELP: &str = "clock [PICTURES]: the proved archive against the Rust original on pictures of 720 by 576
-with stored strengths, PICTURES of each content (300 or more; 300 without). Exit status 0: not slower.";
+with stored strengths, PICTURES of each content (300 or more; 300 without). Ratios are medians over the pictures, each
+of two times on one picture. Exit status 0: every ratio to the original is within its bound.";
 
 fn main() -> ExitCode {
     let words: Vec<String> = std::env::args().skip(1).collect();
@@ -31,15 +58,10 @@ fn main() -> ExitCode {
         return ExitCode::from(2);
     };
     println!("{pictures} pictures of {} by {} of each content, CPU time in microseconds a picture", 16 * W, 16 * H);
-    println!(
-        "{:<8}{:>10}{:>10}{:>10}{:>10}{:>8}{:>8}",
-        "content", "archive", "least", "Rust", "least", "ratio", "least"
-    );
-    let mut within = true;
-    for content in [Content::Intra, Content::Mixed, Content::Still] {
-        within &= clock(content, pictures);
-    }
-    println!("{}", if within { "not slower than the Rust" } else { "SLOWER than the Rust" });
+    println!("                 whole    of the Rust's time, bound   visits, of the Rust's   of the whole's");
+    println!("          Rust  picture      whole picture           raster   wavefront    raster  wavefront");
+    let within = SUBJECTS.map(|subject| subject.clock(pictures)).iter().all(|&within| within);
+    println!("{}", if within { "every ratio within its bound" } else { "a ratio ABOVE its bound" });
     if within {
         ExitCode::SUCCESS
     } else {
@@ -47,86 +69,39 @@ fn main() -> ExitCode {
     }
 }
 
-/// Times one content; whether the medians are within the bound.
-fn clock(content: Content, pictures: usize) -> bool {
-    let mut r = Rng::new(content as u64 + 1);
-    let (mut archive, mut rust) = (Vec::new(), Vec::new());
-    for i in 0..pictures + 2 {
-        let picture = Picture::new(&mut r, content);
-        let (a, b) = picture.both(i % 2 == 0);
-        // the first two warm the caches up
-        if i >= 2 {
-            archive.push(a);
-            rust.push(b);
-        }
-    }
-    let (a, b) = (Times::of(archive), Times::of(rust));
-    let ratio = a.median / b.median;
-    let name = format!("{content:?}").to_lowercase();
-    let [am, al, bm, bl] = [a.median, a.least, b.median, b.least].map(|t| 1e6 * t);
-    println!("{name:<8}{am:>10.0}{al:>10.0}{bm:>10.0}{bl:>10.0}{ratio:>8.2}{:>8.2}", a.least / b.least);
-    ratio <= BOUND
-}
-
-struct Times {
-    median: f64,
-    least: f64,
-}
-
-impl Times {
-    fn of(mut times: Vec<f64>) -> Times {
-        times.sort_by(f64::total_cmp);
-        Times { median: times[times.len() / 2], least: times[0] }
+impl Subject {
+    /// Times it; whether all is within the bounds.
+    fn clock(&self, pictures: usize) -> bool {
+        let mut r = Rng::new(13 + self.content as u64);
+        let times: Vec<[f64; 4]> =
+            (0..pictures + WARM).map(|i| Picture::new(&mut r, self.content, self.look).times(i)).skip(WARM).collect();
+        let over = |a: Way, b: Way| median(times.iter().map(|t| t[a as usize] / t[b as usize]).collect());
+        let micros = |a: Way| 1e6 * median(times.iter().map(|t| t[a as usize]).collect());
+        let [whole, raster, wavefront] = [Way::Whole, Way::Raster, Way::Wavefront].map(|way| over(way, Way::Original));
+        println!(
+            "{:<6}{:>8.0}{:>9.0}{whole:>12.3}{:>8.2}{raster:>17.3}{wavefront:>12.3}{:>10.2}{:>11.2}",
+            self.name,
+            micros(Way::Original),
+            micros(Way::Whole),
+            self.bound,
+            over(Way::Raster, Way::Whole),
+            over(Way::Wavefront, Way::Whole),
+        );
+        whole <= self.bound && raster.max(wavefront) <= VISITS_BOUND
     }
 }
 
-struct Picture {
-    planes: [Vec<u8>; 3],
-    strengths: Vec<u8>,
-    qps: Vec<u8>,
-    t8s: Vec<u8>,
+fn median(mut values: Vec<f64>) -> f64 {
+    values.sort_by(f64::total_cmp);
+    values[values.len() / 2]
 }
 
-impl Picture {
-    fn new(r: &mut Rng, content: Content) -> Picture {
-        let n = W * H;
-        let look = Texture { step: 4, noise: 1, base: r.within(60, 190) };
-        Picture {
-            planes: [16, 8, 8].map(|side| texture(r, side * W, side * H, look)),
-            strengths: strengths(r, n, content),
-            qps: (0..n).map(|_| r.within(28, 36) as u8).collect(),
-            t8s: vec![0; n],
-        }
+#[cfg(test)]
+mod tests {
+    /// A pace that drifts a hundredfold moves no ratio, and one picture that was disturbed moves no median.
+    #[test]
+    fn a_median_of_ratios() {
+        let times = [[1.0, 4.0], [10.0, 40.0], [900.0, 400.0]];
+        assert_eq!(super::median(times.map(|[a, b]| a / b).to_vec()), 0.25);
     }
-
-    /// The seconds that the archive and the original take.
-    fn both(&self, archive_first: bool) -> (f64, f64) {
-        let (mut ours, mut theirs) = (self.planes.clone(), self.planes.clone());
-        let stored = oracle::Stored::new(W, H, &self.strengths, &self.qps, &self.t8s);
-        let times = if archive_first {
-            let a = self.archive(&mut ours);
-            (a, original(&stored, &mut theirs))
-        } else {
-            let b = original(&stored, &mut theirs);
-            (self.archive(&mut ours), b)
-        };
-        assert!(ours == theirs, "the archive and the original differ: run the judge");
-        times
-    }
-
-    fn archive(&self, [y, u, v]: &mut [Vec<u8>; 3]) -> f64 {
-        let stored = binding::Stored { strengths: &self.strengths, qps: &self.qps, t8s: &self.t8s };
-        let size = binding::Size { w: W, h: H };
-        let start = seconds();
-        let answer = binding::frame(size, binding::Offsets::default(), binding::Planes { y, u, v }, stored);
-        let end = seconds();
-        assert_eq!(answer, binding::Answer::Done);
-        end - start
-    }
-}
-
-fn original(stored: &oracle::Stored, [y, u, v]: &mut [Vec<u8>; 3]) -> f64 {
-    let start = seconds();
-    stored.filter_frame(oracle::Planes { y, u, v }, oracle::Offsets { a: 0, b: 0, chroma: 0 });
-    seconds() - start
 }

@@ -1,0 +1,140 @@
+//! How much stack each call of the archive touches, and the original's whole-picture call beside it.
+//!
+//! Each runs on a thread of its own whose stack is memory of ours, painted before. Afterwards the lowest byte that is
+//! not the paint tells how deep it went; a thread that calls nothing tells what of that is the thread's own. Twice,
+//! with two paints, since a byte that the call wrote may look like one.
+
+use binding::{Answer, Grids, Kind, Offsets, Place, Planes, Size, Stored};
+use std::ffi::c_void;
+use std::mem::MaybeUninit;
+
+const BYTES: usize = 1 << 20;
+
+#[repr(C, align(4096))]
+struct Stack([u8; BYTES]);
+
+/// glibc's pthread_attr_t is 56 or 64 bytes.
+#[repr(C, align(16))]
+struct Attributes([u8; 128]);
+
+extern "C" {
+    fn pthread_attr_init(attributes: *mut Attributes) -> i32;
+    fn pthread_attr_setstack(attributes: *mut Attributes, low: *mut c_void, bytes: usize) -> i32;
+    fn pthread_create(
+        thread: *mut usize,
+        attributes: *const Attributes,
+        start: extern "C" fn(*mut c_void) -> *mut c_void,
+        argument: *mut c_void,
+    ) -> i32;
+    fn pthread_join(thread: usize, answer: *mut *mut c_void) -> i32;
+}
+
+type Work<'a> = &'a mut (dyn FnMut() + Send);
+
+extern "C" fn start(work: *mut c_void) -> *mut c_void {
+    // SAFETY: `touched` hands over a pointer to its `Work`, and waits until the thread has ended.
+    unsafe { (*work.cast::<Work>())() };
+    std::ptr::null_mut()
+}
+
+/// The bytes from the top of the stack to the lowest that the thread wrote.
+fn touched(paint: u8, mut work: Work) -> usize {
+    let mut stack = Box::new(MaybeUninit::<Stack>::uninit());
+    let low = stack.as_mut_ptr().cast::<u8>();
+    let mut attributes = Attributes([0; 128]);
+    let mut thread = 0;
+    // SAFETY: the stack is ours, painted before the thread has it and read after the thread has ended.
+    let stack = unsafe {
+        low.write_bytes(paint, BYTES);
+        assert_eq!(pthread_attr_init(&mut attributes), 0);
+        assert_eq!(pthread_attr_setstack(&mut attributes, low.cast(), BYTES), 0);
+        assert_eq!(pthread_create(&mut thread, &attributes, start, (&raw mut work).cast()), 0);
+        assert_eq!(pthread_join(thread, std::ptr::null_mut()), 0);
+        std::slice::from_raw_parts(low, BYTES)
+    };
+    BYTES - stack.iter().position(|&byte| byte != paint).expect("the thread wrote something")
+}
+
+fn deepest(mut work: impl FnMut() + Send) -> usize {
+    [0xA5, 0x3C].map(|paint| touched(paint, &mut work)).into_iter().max().expect("there are two")
+}
+
+/// A picture of two by two macroblocks in which every edge that exists is filtered in both passes.
+struct Picture {
+    planes: [Vec<u8>; 3],
+    strengths: Vec<u8>,
+    marks: Vec<u8>,
+}
+
+const SIZE: Size = Size { w: 2, h: 2 };
+const QPS: [u8; 4] = [40; 4];
+
+impl Picture {
+    fn new() -> Picture {
+        let side = |n: usize| (0..4 * n * n).map(|i| (90 + i % 9) as u8).collect();
+        Picture { planes: [side(16), side(8), side(8)], strengths: [4, 3, 2, 1].repeat(32), marks: vec![0; 4] }
+    }
+
+    fn lent(&mut self) -> (Planes<'_>, Stored<'_>, &mut [u8]) {
+        let [y, u, v] = &mut self.planes;
+        let stored = Stored { strengths: &self.strengths, qps: &QPS, t8s: &[] };
+        (Planes { y, u, v }, stored, &mut self.marks)
+    }
+}
+
+fn main() {
+    let idle = deepest(|| ());
+    let show = |name: &str, bytes: usize| println!("{name:<28}{:>6}", bytes - idle);
+    println!("bytes of stack touched, beyond a thread that calls nothing");
+    filtering(&show);
+    strengths(&show);
+}
+
+fn filtering(show: &dyn Fn(&str, usize)) {
+    let mut p = Picture::new();
+    show("whole picture", {
+        deepest(|| {
+            let (planes, stored, _) = p.lent();
+            assert_eq!(binding::frame(SIZE, Offsets::default(), planes, stored), Answer::Done);
+        })
+    });
+    show("rows", {
+        deepest(|| {
+            let (planes, stored, _) = p.lent();
+            assert_eq!(binding::rows(SIZE, 0..2, Offsets::default(), planes, stored), Answer::Done);
+        })
+    });
+    show("visit", {
+        deepest(|| {
+            let (planes, stored, marks) = p.lent();
+            marks.copy_from_slice(&[1, 1, 1, 0]);
+            let at = Place { x: 1, y: 1 };
+            assert_eq!(binding::visit(SIZE, at, Offsets::default(), planes, stored, marks), Answer::Done);
+        })
+    });
+    let strengths = p.strengths.clone();
+    let stored = oracle::Stored::new(SIZE.w, SIZE.h, &strengths, &QPS, &[]);
+    show("the Rust's whole picture", {
+        deepest(|| {
+            let [y, u, v] = &mut p.planes;
+            stored.filter_frame(oracle::Planes { y, u, v }, oracle::Offsets { a: 0, b: 0, chroma: 0 });
+        })
+    });
+}
+
+fn strengths(show: &dyn Fn(&str, usize)) {
+    let (inter, nnz, ref0, ref1) = ([1; 64], [0; 64], [5; 64], [6; 64]);
+    let mv0: Vec<i16> = (0..128).collect();
+    let grids = Grids { inter: &inter, nnz: &nnz, ref0: &ref0, mv0: &mv0, ref1: &ref1, mv1: &mv0 };
+    let (at, mut out) = (Place { x: 1, y: 1 }, vec![0; 128]);
+    show("strengths by kind", {
+        deepest(|| assert_eq!(binding::strengths_by_kind(SIZE, at, Kind::Inter, grids, &mut out), Answer::Done))
+    });
+    show("strengths by flags", {
+        deepest(|| {
+            let flags = (false, false, false);
+            assert_eq!(binding::strengths_by_flags(SIZE, at, flags, grids, &mut out), Answer::Done)
+        })
+    });
+    show("strengths", deepest(|| assert_eq!(binding::strengths(SIZE, at, false, grids, &mut out), Answer::Done)));
+}

@@ -15,8 +15,8 @@ use picture::{Picture, H, W};
 use std::process::ExitCode;
 use ways::Way;
 
-/// What is timed, and the most that the whole-picture call may take of the original's time: about a tenth above what
-/// docs/SPEED.md has for the slower kind of machine, and far below the 1.5 that request [13] allows.
+/// What is timed, and the most that the whole-picture call may take of the original's time: a tenth to a sixth above
+/// what docs/SPEED.md has for the slower kind of machine, and far below the 1.5 that request [13] allows.
 const SUBJECTS: [Subject; 4] = [
     Subject { name: "intra", content: Content::Intra, look: CODED, bound: 0.30 },
     Subject { name: "mixed", content: Content::Mixed, look: CODED, bound: 0.34 },

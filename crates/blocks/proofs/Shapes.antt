@@ -14,7 +14,7 @@ use Rattle.laws.proofs.Bools.{and-false}
 use Rattle.lines.specs.Luma.{kept, normalLine, strongLine, lumaLine}
 use Rattle.lines.specs.Chroma.{same, normalShort, strongShort, chromaLine}
 use Rattle.lines.specs.Planes.{toLine, fromSix, onLine, toShort, fromTwo, onShort, lumaAt, chromaAt}
-use Rattle.lines.specs.Thresholds.{tcBy}
+use Rattle.lines.specs.Inner.{tcBy}
 use Rattle.lines.proofs.OnPlane.{lumaAt-kept, chromaAt-kept}
 use Rattle.lines.proofs.Strengths.{luma-none, luma-normal, luma-strong, luma-shut, chroma-none, chroma-normal, chroma-strong, chroma-shut}
 use Rattle.blocks.specs.Lanes.{kindOf, ofKind, weakRow, tcRow, strongRow, isWeak, isStrong}

@@ -6,7 +6,7 @@ ghost use Prim.Native.Nat.{_+_, _*_, _<_};
 ghost use mathlib.Core.Bool.{_&&_};
 ghost use lib.ListN.{length};
 ghost use Rattle.laws.specs.Loop.{upTo};
-ghost use Rattle.lines.specs.Thresholds.{tcBy};
+ghost use Rattle.lines.specs.Inner.{tcBy};
 ghost use Rattle.blocks.specs.Lanes.{still};
 ghost use Rattle.blocks.specs.Lines.{Straight, upper, lower, shortAt, shortLines};
 ghost use Rattle.blocks.specs.Moves.{takenBoth, given};

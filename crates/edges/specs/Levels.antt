@@ -1,8 +1,9 @@
--- The rules by the thresholds that an edge is handed, and the thresholds of a macroblock's edges: what the
--- code computes before it touches a line.
+-- Apart: no promise to a caller of the public calls rests on it. The rules by the thresholds that an edge is
+-- handed, and the thresholds of a macroblock's edges: what the code computes before it touches a line.
 use Prim.Native.Nat.{ℕ}
 use lib.IntN.{ℤ}
-use Rattle.lines.specs.Thresholds.{average, chromaQp, thresholdsOf}
+use Rattle.lines.specs.Thresholds.{average, chromaQp}
+use Rattle.lines.specs.Inner.{thresholdsOf}
 use Rattle.lines.specs.declared.limits.Limits.{Limits}
 use Rattle.lines.specs.declared.limits.Limits.the-variants.{Filtered, Nothing}
 use Rattle.blocks.specs.Lines.{lumaWith, chromaWith}

@@ -7,7 +7,9 @@ use native.Mathlib.Omega.{arith}
 use lib.Arith.{digits-div, digits-mod}
 use Rattle.laws.specs.Places.{Plane}
 use Rattle.laws.specs.Local.{Local}
-use Rattle.laws.specs.Grid.{Near, is-left, is-up, is-up-right, Dep, Touch, own, left, upper, Foot}
+use Rattle.laws.specs.Grid.{Near, is-left, is-up, is-up-right}
+use Rattle.laws.specs.Foot.{own, left, upper, Touch, Foot}
+use Rattle.laws.specs.Order.{Dep}
 use Rattle.laws.proofs.Local.{commute}
 
 pub data Meet (xa ya xb yb : ℕ) : Type 0 where

@@ -11,8 +11,8 @@ use lib.Dec.{T}
 use lib.ListN.{length, getD, set, length-set}
 use lib.Seq.{ext-getD, getD-set-same, getD-set-other, set-out}
 use Rattle.laws.specs.Loop.{upTo}
-use Rattle.laws.specs.Places.{Plane, places, gets, puts, through, lineAt, All, Among}
-use Rattle.laws.specs.Local.{Agree, Local}
+use Rattle.laws.specs.Places.{Plane, places, gets, puts, through, lineAt}
+use Rattle.laws.specs.Local.{All, Among, Agree, Local}
 use Rattle.laws.proofs.Places.{puts-length, all-places, all-among, decAmong}
 
 pub commute : (F G : ℕ → Type 0) (f g : Plane → Plane) → ((p : ℕ) → Dec (F p)) → ((p : ℕ) → Dec (G p)) → ((p : ℕ) → F p → G p → ⊥)
@@ -47,10 +47,6 @@ module _ (F : ℕ → Type 0) where
   pub local-when : (b : Bool) (f : Plane → Plane) → (T b → Local F f) → Local F (λ s. cond b (f s) s)
   local-when true f lf = lf tt
   local-when false f lf = local-id
-
-  -- the same function, written in another way
-  pub local-eq : (f g : Plane → Plane) → ((s : Plane) → f s ≡ g s) → Local F f → Local F g
-  local-eq f g h l = subst (Local F) (λ i s. h s i) l
 
   -- ---- samples inside the footprint go through any function, and are put back inside it
   gets-same : (ps : List ℕ) (s t : Plane) → All F ps → Agree F s t → gets ps s ≡ gets ps t

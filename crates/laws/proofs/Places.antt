@@ -8,7 +8,8 @@ use native.Mathlib.Decide.{ℕ-discrete}
 use native.Mathlib.Omega.{arith}
 use lib.ListN.{length, getD, set, length-set}
 use lib.Seq.{getD-set-other, set-getD}
-use Rattle.laws.specs.Places.{Plane, places, gets, puts, through, All, Among}
+use Rattle.laws.specs.Places.{Plane, places, gets, puts, through}
+use Rattle.laws.specs.Local.{All, Among}
 
 pub puts-length : (ps vs : List ℕ) (s : Plane) → length (puts ps vs s) ≡ length s
 puts-length [] vs s = refl

@@ -13,7 +13,8 @@ use lib.Dec.{eqb}
 use lib.ListN.{length, getD, set}
 use lib.Seq.{getD-set-same, getD-set-other}
 use Rattle.laws.specs.Loop.{upTo}
-use Rattle.laws.specs.Raster.{Marked, onMark, raster, Ready, Closed}
+use Rattle.laws.specs.Raster.{Marked, onMark, raster}
+use Rattle.laws.specs.Order.{Ready, Closed}
 
 -- ---- marks
 pub mark-same : (ms : List ℕ) (m : ℕ) → m < length ms → Marked (set ms m 1) m

@@ -1,6 +1,6 @@
 -- A plane is the list of its samples. What stands at some places of it, and what is put there.
 use Prim.Native.Nat.{ℕ, zero, suc, _+_}
-use mathlib.Core.List.{List, [], _∷_, List·Memᴰ}
+use mathlib.Core.List.{List, [], _∷_}
 use lib.ListN.{getD, set}
 
 abbrev pub Plane : Type 0
@@ -30,12 +30,3 @@ through ps qs f s = puts qs (f (gets ps s)) s
 -- stored at the n between the outermost
 abbrev pub lineAt : ℕ → (List ℕ → List ℕ) → ℕ → ℕ → Plane → Plane
 lineAt n f at step = through (places at step (suc (suc n))) (places (at + step) step n) f
-
--- each of the list is an F
-abbrev pub All : (ℕ → Type 0) → List ℕ → Type 0
-All F [] = Unit {0}
-All F (p ∷ ps) = F p × All F ps
-
--- p is one of the places ps
-abbrev pub Among : List ℕ → ℕ → Type 0
-Among ps p = List·Memᴰ p ps

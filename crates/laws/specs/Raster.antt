@@ -1,5 +1,6 @@
--- Steps in raster order, and marks that say which of them have been made. A step is any function on any state.
-use Prim.Native.Nat.{ℕ, _<_}
+-- Steps in raster order, and marks that say which of them have been made: demand 3. A step is any function on any
+-- state.
+use Prim.Native.Nat.{ℕ}
 use mathlib.Core.Path.{_≡_}
 use mathlib.Core.Bool.{cond}
 use mathlib.Core.List.{List}
@@ -18,13 +19,3 @@ module _ {S : Type 0} (step : ℕ → S → S) where
 
   abbrev pub raster : ℕ → List ℕ → S → S
   raster n ms s = upTo n (onMark ms) s
-
--- Dep a b: b may be visited only once a has been
-module _ (Dep : ℕ → ℕ → Type 0) where
-  -- all that m waits for is marked
-  abbrev pub Ready : List ℕ → ℕ → Type 0
-  Ready ms m = (a : ℕ) → Dep a m → Marked ms a
-
-  -- each that is marked was ready
-  abbrev pub Closed : ℕ → List ℕ → Type 0
-  Closed n ms = (b : ℕ) → b < n → Marked ms b → Ready ms b

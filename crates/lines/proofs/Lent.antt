@@ -5,7 +5,8 @@ use Prim.Native.Nat.{ℕ, _+_, _*_, _<_}
 use native.Mathlib.Omega.{arith}
 use lib.ListN.{getD, List·getD-append}
 use lib.Seq.{getD-append-add}
-use Rattle.lines.specs.Tables.{alphas, betas, tc0s, qpcs, alphaAt, betaAt, tc0At, tables}
+use Rattle.lines.specs.Tables.{alphas, betas, tc0s, qpcs, alphaAt, betaAt, tc0At}
+use Rattle.lines.specs.Inner.{tables}
 
 pub alpha-in : (i : ℕ) → i < 52 → getD tables i 0 ≡ alphaAt i
 unfolding tables alphas

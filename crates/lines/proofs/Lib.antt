@@ -1,4 +1,5 @@
 pub mod Cases
+pub mod Examples
 pub mod Lent
 pub mod Moves
 pub mod OnPlane

@@ -3,8 +3,8 @@ use mathlib.Core.Path.{_≡_, _∙_}
 use Prim.Native.Nat.{ℕ, _+_, _*_, _<_}
 use lib.Dec.{lit≤}
 use lib.ListN.{getD}
-use Rattle.laws.specs.Places.{Plane, places, gets, Among}
-use Rattle.laws.specs.Local.{Local}
+use Rattle.laws.specs.Places.{Plane, places, gets}
+use Rattle.laws.specs.Local.{Among, Local}
 use Rattle.laws.proofs.Places.{puts-beside, puts-gets, inner-among}
 use Rattle.laws.proofs.Local.{lineAt-in, local-line, line-commute}
 use Rattle.lines.specs.Luma.{Line, kept}

@@ -7,8 +7,7 @@ use lib.Dec.{leb}
 use lib.IntN.{ℤ, pos, negsuc, negℤ, natAbs, _+ℤ_, _-ℤ_, _*ℤ_}
 use lib.Signed.{quotZ}
 use Rattle.laws.specs.Clip.{clip3, clip1, dist}
-use Rattle.lines.specs.Tables.{alphas, betas, tc0s, qpcs, alphaAt, betaAt, tc0At}
-use Rattle.lines.specs.Thresholds.{average, chromaQp, chromaAverage}
+use Rattle.lines.specs.Tables.{alphas, betas, tc0s, alphaAt, betaAt, tc0At}
 use Rattle.lines.specs.Filter.{filterSamples, deltaOf}
 use Rattle.lines.specs.Luma.{Line, line, flatQ, nudgeOf, innerOf, lumaNormal, normalLine, lumaLine}
 use Rattle.lines.specs.Chroma.{Short, short, chromaNormal, normalShort, chromaLine}
@@ -51,11 +50,6 @@ bright = line 254 254 255 254 255 238 255 255
 pub q1-from-both-new : q1From 18 25 (lumaNormal 255 18 25 bright .p0) (lumaNormal 255 18 25 bright .q0) bright ≡ lumaNormal 255 18 25 bright .q1 → ⊥
 unfolding lumaNormal innerOf nudgeOf deltaOf clip1 clip3
 q1-from-both-new e = omega arith
-
--- ---- luma QPs averaged before the mapping: 42 and 45 give 37, rightly 38
-pub averaged-first : chromaQp 0 (pos 0) (average (pos 42) (pos 45)) ≡ chromaAverage 0 (pos 0) (pos 42) (pos 45) → ⊥
-unfolding average chromaQp clip3 qpcs
-averaged-first e = let k = differ e in omega arith
 
 -- ---- chroma with tC = tC0: P8 at strength 1
 abbrev eighth : Short

@@ -1,16 +1,17 @@
 -- How far a filter at strengths 1 to 3 moves a sample, and that p1 and q1 stay samples with no Clip1. Assumes nothing.
 use mathlib.Core.Path.{_≡_, refl, sym, ap, _∙_}
+use mathlib.Core.Bool.{Bool, true, false, cond}
 use mathlib.Core.Logic.{_⊎_, ⊎-elim}
 use Prim.Native.Nat.{ℕ, zero, suc, _+_, _-_, _*_, _/_, _≤_, _<_}
 use native.Mathlib.Omega.{arith}
 use borrow.Author.Tests.{lt-ltb, le-ltb}
 use lib.IntN.{ℤ, pos, negsuc, negℤ, natAbs, _+ℤ_, _-ℤ_, _*ℤ_}
 use lib.Signed.{shrZ}
-use Rattle.laws.specs.Clip.{clip3}
-use Rattle.laws.proofs.Clip.{clip3-abs}
+use Rattle.laws.specs.Clip.{clip3, clip1}
+use Rattle.laws.proofs.Clip.{clip3-abs, clip1-pos}
 use Rattle.laws.proofs.Ints.{le-or-lt, sub-pos, sub-neg, clip-up-far, clip-up-near, clip-down-far, clip-down-near}
 use Rattle.lines.specs.Filter.{deltaOf}
-use Rattle.lines.specs.Luma.{nudgeOf}
+use Rattle.lines.specs.Luma.{nudgeOf, innerOf}
 
 pub delta-abs : (tc p1 p0 q0 q1 : ℕ) → natAbs (deltaOf tc p1 p0 q0 q1) ≤ tc
 unfolding deltaOf
@@ -57,3 +58,13 @@ step t a x = ⊎-elim above below (le-or-lt (x * 2) a)
 pub inner-lands : (tc0 x2 x1 p0 q0 : ℕ) → Lands x1 ((x2 + (p0 + q0 + 1) / 2) / 2) (pos x1 +ℤ nudgeOf tc0 x2 x1 p0 q0)
 unfolding nudgeOf
 inner-lands tc0 x2 x1 p0 q0 = step tc0 (x2 + (p0 + q0 + 1) / 2) x1
+
+-- so between samples a Clip1, which document 01 has, changes nothing
+pub inner-clipped : (top tc0 x2 x1 p0 q0 : ℕ) (flat : Bool) → x2 ≤ top → x1 ≤ top → p0 ≤ top → q0 ≤ top
+    → innerOf flat tc0 x2 x1 p0 q0 ≡ cond flat (clip1 top (pos x1 +ℤ nudgeOf tc0 x2 x1 p0 q0)) x1
+unfolding innerOf
+inner-clipped top tc0 x2 x1 p0 q0 false h2 h1 hp hq = refl
+inner-clipped top tc0 x2 x1 p0 q0 true h2 h1 hp hq =
+    let l = inner-lands tc0 x2 x1 p0 q0 in
+    let b = l .within top h1 (omega arith) in
+    rw (l .is) (clip1-pos (λ (m : ℕ). l .at ≡ m) top (l .at) (λ t. absurd (omega arith)) (λ t. refl))

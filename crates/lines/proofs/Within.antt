@@ -6,7 +6,8 @@ use native.Mathlib.Omega.{arith}
 use lib.Dec.{ltb, eqb}
 use lib.IntN.{pos, natAbs, _+ℤ_}
 use lib.ListN.{getD}
-use Rattle.laws.specs.Places.{Plane, places, All}
+use Rattle.laws.specs.Places.{Plane, places}
+use Rattle.laws.specs.Local.{All}
 use Rattle.laws.proofs.Clip.{clip1-le}
 use Rattle.laws.proofs.Cond.{cond-both}
 use Rattle.laws.proofs.Places.{Within, all-at, through-within}

@@ -1,25 +1,30 @@
--- P1 to P8 of the proved table, of the definitions: offsets 0, and index 30 (alpha 25, beta 8, tC0 1, 1, 2) unless said.
+-- Apart: no promise rests on it. P1 to P8 of the proved table, of the definitions: offsets 0, and QP 30 unless
+-- said, which is index 30 (alpha 25, beta 8, tC0 1, 1, 2).
 use Prim.Native.Nat.{ℕ, _-_}
 use mathlib.Core.List.{List, [], _∷_, _++_}
 use lib.IntN.{ℤ, pos}
 use Rattle.laws.specs.Cases.{Case}
-use Rattle.lines.specs.Tables.{alphaAt, betaAt, tc0At}
+use Rattle.laws.specs.Places.{Plane}
 use Rattle.lines.specs.Thresholds.{alphaOf, betaOf, tc0Of}
-use Rattle.lines.specs.Luma.{Line, line, lumaLine}
-use Rattle.lines.specs.Chroma.{short, chromaLine}
-use Rattle.lines.specs.Planes.{fromSix, fromTwo}
+use Rattle.lines.specs.Luma.{lumaLine}
+use Rattle.lines.specs.Chroma.{chromaLine}
+use Rattle.lines.specs.Planes.{lumaAt, chromaAt}
 
 -- alpha, beta and the three tC0 of a QP and an offset
 abbrev levels : ℤ → ℤ → List ℕ
 levels qp off = alphaOf 1 qp off ∷ betaOf 1 qp off ∷ tc0Of 1 qp off 0 ∷ tc0Of 1 qp off 1 ∷ tc0Of 1 qp off 2 ∷ []
 
--- four samples a beside four samples b, filtered at the strength bs
-abbrev luma : ℕ → ℕ → ℕ → List ℕ
-luma bs a b = a ∷ fromSix (lumaLine 255 bs (alphaAt 30) (betaAt 30) (tc0At 30 (bs - 1)) (line a a a a b b b b)) ++ (b ∷ [])
+-- a rule at the strength bs and QP 30: it takes the largest sample, bs, alpha, beta and tC0
+abbrev at30 : {A : Type 0} → (ℕ → ℕ → ℕ → ℕ → ℕ → A) → ℕ → A
+at30 rule bs = rule 255 bs (alphaOf 1 (pos 30) (pos 0)) (betaOf 1 (pos 30) (pos 0)) (tc0Of 1 (pos 30) (pos 0) (bs - 1))
 
--- two and two
-abbrev chroma : ℕ → ℕ → ℕ → List ℕ
-chroma bs a b = a ∷ fromTwo (chromaLine 255 bs (alphaAt 30) (betaAt 30) (tc0At 30 (bs - 1)) (short a a b b)) ++ (b ∷ [])
+-- a plane of four samples a beside four samples b, its one luma line filtered at the strength bs
+abbrev luma : ℕ → ℕ → ℕ → Plane
+luma bs a b = lumaAt (at30 lumaLine bs) 0 1 (a ∷ a ∷ a ∷ a ∷ b ∷ b ∷ b ∷ b ∷ [])
+
+-- of two and two, its one chroma line
+abbrev chroma : ℕ → ℕ → ℕ → Plane
+chroma bs a b = chromaAt (at30 chromaLine bs) 0 1 (a ∷ a ∷ b ∷ b ∷ [])
 
 unfoldable pub cases : List Case
 cases =

@@ -1,5 +1,5 @@
--- A chroma line, p1 p0 | q0 q1, over the largest sample `top`: ITU-T H.264, clauses 8.7.2.2 to 8.7.2.4 with chromaStyleFilteringFlag set. Its outcome are the
--- two samples that a filter can change.
+-- A chroma line, p1 p0 | q0 q1, over the largest sample `top`: ITU-T H.264, clauses 8.7.2.2 to 8.7.2.4 with
+-- chromaStyleFilteringFlag set. Its outcome are the two samples that a filter can change.
 use Prim.Native.Nat.{ℕ, _+_, _*_, _/_}
 use mathlib.Core.Bool.{Bool, cond}
 use lib.Dec.{ltb, eqb}

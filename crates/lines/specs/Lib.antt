@@ -3,5 +3,6 @@ pub mod Thresholds
 pub mod Luma
 pub mod Chroma
 pub mod Filter
+pub mod Inner
 pub mod Cases
 pub mod Planes

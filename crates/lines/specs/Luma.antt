@@ -1,5 +1,5 @@
--- A luma line, p3 p2 p1 p0 | q0 q1 q2 q3, over the largest sample `top`: ITU-T H.264, clauses 8.7.2.2 to 8.7.2.4. Its outcome are the six samples that a
--- filter can change.
+-- A luma line, p3 p2 p1 p0 | q0 q1 q2 q3, over the largest sample `top`: ITU-T H.264, clauses 8.7.2.2 to
+-- 8.7.2.4. Its outcome are the six samples that a filter can change.
 use Prim.Native.Nat.{ℕ, _+_, _*_, _/_}
 use mathlib.Core.Bool.{Bool, true, false, cond, _&&_}
 use lib.Dec.{ltb, eqb}
@@ -46,12 +46,15 @@ tcOf beta tc0 l = tc0 + (one (flatP beta l) + one (flatQ beta l))
 abbrev pub lumaDelta : ℕ → ℕ → Line → ℤ
 lumaDelta beta tc0 l = deltaOf (tcOf beta tc0 l) (l .p1) (l .p0) (l .q0) (l .q1)
 
--- Clip3(-tC0, tC0, (x2 + ((p0 + q0 + 1) >> 1) - (x1 << 1)) >> 1), where x is p or q
+-- Clip3(-tC0, tC0, (x2 + ((p0 + q0 + 1) >> 1) - (x1 << 1)) >> 1), where x is p or q; `shrZ _ 2` is the shift
+-- by 1, which rounds down
 unfoldable pub nudgeOf : ℕ → ℕ → ℕ → ℕ → ℕ → ℤ
 nudgeOf tc0 x2 x1 p0 q0 =
     clip3 (negℤ (pos tc0)) (pos tc0) (shrZ (pos x2 +ℤ shrZ (pos p0 +ℤ pos q0 +ℤ pos 1) 2 -ℤ pos x1 *ℤ pos 2) 2)
 
--- x'1 = x1 + that where ax < beta, else x1. The standard has no Clip1 here, and none is needed: the sum is a sample (law `inner-lands`)
+-- x'1 = x1 + that where ax < beta, else x1. The standard has no Clip1 here, and none is needed: between
+-- samples the sum is a sample, and so what document 01 has, clipped, is the same (laws `inner-lands`,
+-- `inner-clipped`)
 unfoldable pub innerOf : Bool → ℕ → ℕ → ℕ → ℕ → ℕ → ℕ
 innerOf flat tc0 x2 x1 p0 q0 = cond flat (natAbs (pos x1 +ℤ nudgeOf tc0 x2 x1 p0 q0)) x1
 

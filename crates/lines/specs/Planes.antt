@@ -1,4 +1,5 @@
--- A line of a plane: `at` is the place of its first sample (p3 of luma, p1 of chroma) and `step` the way from a sample to the next.
+-- A line of a plane: `at` is the place of its first sample (p3 of luma, p1 of chroma) and `step` the way from
+-- a sample to the next.
 use Prim.Native.Nat.{ℕ}
 use mathlib.Core.List.{List, [], _∷_}
 use lib.ListN.{getD}

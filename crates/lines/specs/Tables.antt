@@ -1,6 +1,6 @@
 -- The tables of ITU-T H.264 that the filter reads.
 use Prim.Native.Nat.{ℕ, _+_, _*_}
-use mathlib.Core.List.{List, [], _∷_, _++_}
+use mathlib.Core.List.{List, [], _∷_}
 use lib.ListN.{getD}
 
 -- Table 8-16: alpha' by indexA
@@ -28,7 +28,3 @@ betaAt i = getD betas i 0
 -- at index i for bS = s + 1
 abbrev pub tc0At : ℕ → ℕ → ℕ
 tc0At i s = getD tc0s (3 * i + s) 0
-
--- the four end to end, as the code lends them down
-unfoldable pub tables : List ℕ
-tables = alphas ++ betas ++ tc0s ++ qpcs

@@ -2,8 +2,8 @@
 ghost use mathlib.Core.Path.{_≡_};
 ghost use Prim.Native.Nat.{_<_};
 ghost use lib.IntN.{pos};
-ghost use Rattle.lines.specs.Tables.{tables};
-ghost use Rattle.lines.specs.Thresholds.{average, indexOf, chromaQp, thresholdsOf};
+ghost use Rattle.lines.specs.Inner.{tables, thresholdsOf};
+ghost use Rattle.lines.specs.Thresholds.{average, indexOf, chromaQp};
 use crate::tables::alpha_at;
 use crate::tables::beta_at;
 use crate::tables::qpc_at;

@@ -3,7 +3,8 @@
 ghost use mathlib.Core.Path.{_≡_};
 ghost use Prim.Native.Nat.{_<_, _-_, _≤_};
 ghost use lib.ListN.{getD};
-ghost use Rattle.lines.specs.Tables.{alphaAt, betaAt, tc0At, qpcs, tables};
+ghost use Rattle.lines.specs.Tables.{alphaAt, betaAt, tc0At, qpcs};
+ghost use Rattle.lines.specs.Inner.{tables};
 
 const TABLES: [u8; 282] = [
     0,

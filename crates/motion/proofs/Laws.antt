@@ -7,7 +7,8 @@ use native.Mathlib.Omega.{arith}
 use lib.Dec.{T, lit≤}
 use mir.Facts.{and-yes}
 use Rattle.laws.proofs.Cond.{cond-both}
-use Rattle.motion.specs.Grids.{Grids, Hold}
+use Rattle.motion.specs.Grids.{Grids}
+use Rattle.motion.specs.Inner.{Hold}
 use Rattle.motion.specs.Motion.{first, second, ifUsed, used, mate, paired, mismatched, differ, interStrength, equal, sameMotion}
 use Rattle.laws.specs.Equal.{eqZ}
 use Rattle.motion.specs.declared.blocks.Blk.{Blk}

@@ -6,7 +6,8 @@ use native.Mathlib.Omega.{arith}
 use lib.IntN.{ℤ, pos, negsuc}
 use lib.ListN.{length, getD, take, drop, length-take, length-drop, List·getD-eq-default}
 use lib.Seq.{getD-drop, getD-take}
-use Rattle.motion.specs.Grids.{pairAt, motionAt}
+use Rattle.motion.specs.Grids.{motionAt}
+use Rattle.motion.specs.Inner.{pairAt}
 
 -- ---- the part of two numbers
 pub part-two : (l : List ℤ) (a : ℕ) → take (a + 2 - a) (drop a l) ≡ take 2 (drop a l)

@@ -1,15 +1,16 @@
--- The grids of a picture's 4x4 blocks, in raster order, and the block at a place of them: document 01, "Sizes and layouts".
-use Prim.Native.Nat.{ℕ, _+_, _*_, _≤_, _<_}
-use mathlib.Core.Path.{_≡_}
+-- The grids of a picture's 4x4 blocks, in raster order, and the block at a place of them: document 01, "Sizes
+-- and layouts".
+use Prim.Native.Nat.{ℕ, _+_, _*_}
 use mathlib.Core.Bool.{Bool, not}
 use mathlib.Core.List.{List}
 use lib.Dec.{eqb}
 use lib.IntN.{ℤ, pos, negsuc}
-use lib.ListN.{length, getD, take, drop}
+use lib.ListN.{getD}
 use Rattle.motion.specs.declared.blocks.Blk.{Blk}
 use Rattle.motion.specs.declared.blocks.Motion.{Motion}
 
--- inter, 0 or 1; the coefficient count; and of each list the reference, -1 for none, and the vector as two numbers, x and y
+-- inter, 0 or 1; the coefficient count; and of each list the reference, -1 for none, and the vector as two
+-- numbers, x and y
 pub record Grids : Type 0 where
   pub inter : List ℕ
   pub nnz : List ℕ
@@ -21,27 +22,9 @@ pub record Grids : Type 0 where
 abbrev pub grids : List ℕ → List ℕ → List ℤ → List ℤ → List ℤ → List ℤ → Grids
 grids inters counts r m s n = record { inter = inters; nnz = counts; ref0 = r; mv0 = m; ref1 = s; mv1 = n }
 
--- ---- lengths
--- list 1's two grids are both empty, or both hold n blocks
-pub record Optional (refs mvs : List ℤ) (n : ℕ) : Type 0 where
-  pub empty : length refs ≡ 0 → length mvs ≡ 0
-  pub full : 0 < length refs → (n ≤ length refs) × (2 * n ≤ length mvs)
-
--- the grids hold n blocks
-pub record Hold (g : Grids) (n : ℕ) : Type 0 where
-  pub inters : n ≤ length (g .inter)
-  pub counts : n ≤ length (g .nnz)
-  pub refs : n ≤ length (g .ref0)
-  pub vectors : 2 * n ≤ length (g .mv0)
-  pub list1 : Optional (g .ref1) (g .mv1) n
-
 -- ---- block i. An empty list holds no reference and the vector 0
 abbrev pub refAt : List ℤ → ℕ → ℤ
 refAt refs i = getD refs i (negsuc 0)
-
--- the two numbers of its vector, as part of the grid
-abbrev pub pairAt : List ℤ → ℕ → List ℤ
-pairAt mvs i = take 2 (drop (2 * i) mvs)
 
 -- the reference r with its vector
 abbrev pub vectorAt : ℤ → List ℤ → ℕ → Motion

@@ -1,4 +1,5 @@
--- The small list of used references that the comparison builds.
+-- Apart: no promise to a caller of the public calls rests on it. The small list of used references that the
+-- comparison builds.
 use mathlib.Core.Path.{_≡_}
 use mathlib.Core.List.{List, [], _∷_}
 use lib.ListN.{length, take}

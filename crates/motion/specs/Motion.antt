@@ -1,5 +1,6 @@
--- When the motion of two inter blocks differs, and the strength between them: document 01, "Strengths"; ITU-T H.264, clause 8.7.2.1.
--- A reference is the number of a picture, whichever list names it; below 0 it is none. P9 to P11 (Cases) are worked examples.
+-- When the motion of two inter blocks differs, and the strength between them: document 01, "Strengths"; ITU-T
+-- H.264, clause 8.7.2.1. A reference is the number of a picture, whichever list names it; below 0 it is none.
+-- P9 to P11 (Cases) are worked examples.
 use Prim.Native.Nat.{ℕ}
 use mathlib.Core.Bool.{Bool, true, false, not, cond, _&&_, _||_}
 use mathlib.Core.List.{List, [], _∷_, _++_, map, reverse}
@@ -30,7 +31,8 @@ ifUsed m = cond (isUsed m) (m ∷ []) []
 unfoldable pub used : Blk → List Motion
 used b = ifUsed (first b) ++ ifUsed (second b)
 
--- ---- pairings. v is the most by which near vectors differ vertically: 3, and in fields 1; horizontally it is always 3
+-- ---- pairings. v is the most by which near vectors differ vertically: 3, and in fields 1; horizontally it
+-- is always 3
 abbrev pub far : ℕ → Motion → Motion → Bool
 far v a b = outside 3 (a .x -ℤ b .x) || outside v (a .y -ℤ b .y)
 
@@ -49,8 +51,8 @@ inOrder v (a ∷ p) (b ∷ q) = mate v a b && inOrder v p q
 abbrev pub paired : ℕ → List Motion → List Motion → Bool
 paired v p q = inOrder v p q || inOrder v p (reverse q)
 
--- ---- the numbers of used references differ, or their sets do, or no pairing that matches references is near in all vectors.
--- With one each: the references differ or the vectors are far. With none each: never
+-- ---- the numbers of used references differ, or their sets do, or no pairing that matches references is near
+-- in all vectors. With one each: the references differ or the vectors are far. With none each: never
 abbrev pub references : List Motion → List ℤ
 references p = map (λ m. m .reference) p
 

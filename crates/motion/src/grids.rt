@@ -4,7 +4,8 @@ ghost use mathlib.Core.Path.{_≡_};
 ghost use mathlib.Core.Bool.{cond};
 ghost use Prim.Native.Nat.{_+_, _*_, _<_, _≤_};
 ghost use lib.ListN.{length};
-ghost use Rattle.motion.specs.Grids.{grids, Optional, Hold, pairAt, refAt, vectorAt, motionAt, joined, blkAt};
+ghost use Rattle.motion.specs.Grids.{grids, refAt, vectorAt, motionAt, joined, blkAt};
+ghost use Rattle.motion.specs.Inner.{Optional, Hold, pairAt};
 use crate::blocks::Blk;
 use crate::blocks::Motion;
 

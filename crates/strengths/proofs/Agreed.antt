@@ -14,8 +14,8 @@ use Rattle.motion.specs.Motion.{sameMotion}
 use Rattle.motion.specs.declared.blocks.Blk.{Blk}
 use Rattle.strengths.specs.Blocks.{origin, own, left, above}
 use Rattle.strengths.specs.Checks.{differs, disagree}
-use Rattle.strengths.specs.Kinds.{first, everyOwn, uniform, flat, isKind}
-use Rattle.strengths.specs.Flags.{kindBy}
+use Rattle.strengths.specs.Kinds.{everyOwn, uniform, flat, isKind}
+use Rattle.strengths.specs.ByKind.{first, kindBy}
 use Rattle.strengths.specs.declared.kinds.MbKind.{MbKind}
 use Rattle.strengths.specs.declared.kinds.MbKind.the-variants.{Intra, Skip, InterUniform, Inter}
 use Rattle.laws.proofs.Bools.{or-false}

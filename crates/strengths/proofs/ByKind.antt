@@ -1,4 +1,5 @@
--- A kind that is true of the grids gives the strengths of clause 8.7.2.1: inside the macroblock nothing more need be compared. Assumes nothing.
+-- A kind that is true of the grids gives the strengths of clause 8.7.2.1: inside the macroblock nothing more
+-- need be compared. Assumes nothing.
 use mathlib.Core.Path.{_≡_, refl, sym, ap, subst, _∙_}
 use mathlib.Core.Bool.{Bool, true, false, cond, not, _&&_, _||_}
 use mathlib.Core.List.{List}
@@ -16,7 +17,8 @@ use Rattle.motion.specs.declared.blocks.Blk.{Blk}
 use Rattle.strengths.specs.Blocks.{origin, own}
 use Rattle.strengths.specs.Checks.{disagree}
 use Rattle.strengths.specs.Strength.{vertical, edge, segment, row, column, qBlock, pBlock, border, skipped, between, strengthAt}
-use Rattle.strengths.specs.Kinds.{first, everyOwn, uniform, flat, isKind, inside, acrossBy, strengthBy}
+use Rattle.strengths.specs.Kinds.{everyOwn, uniform, flat, isKind}
+use Rattle.strengths.specs.ByKind.{first, inside, acrossBy, strengthBy}
 use Rattle.strengths.specs.declared.kinds.MbKind.{MbKind}
 use Rattle.strengths.specs.declared.kinds.MbKind.the-variants.{Intra, Skip, InterUniform, Inter}
 use Rattle.strengths.proofs.Agreed.{own-inter, inter-is, intra-is}

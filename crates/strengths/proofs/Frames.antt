@@ -1,4 +1,5 @@
--- What a call knows once its checks have passed, the ways out of it, and that its promise allows one outcome only. Assumes nothing.
+-- What a call knows once its checks have passed, the ways out of it, and that its promise allows one outcome
+-- only. Assumes nothing.
 use mathlib.Core.Path.{_≡_, refl, sym, ap, _∙_}
 use mathlib.Core.Bool.{Bool, true, false, cond, not, _||_}
 use mathlib.Core.List.{List, [], _∷_, _++_}
@@ -12,7 +13,8 @@ use lib.ListN.{length}
 use Rattle.laws.proofs.Bools.{or-false, equal, full}
 use Rattle.laws.specs.Refusal.{refusal}
 use Rattle.laws.proofs.Refusal.{Numbered, nonzero, passed, refusal-cut, refusal-left}
-use Rattle.edges.specs.Picture.{Planes, Room, held, rowsOf}
+use Rattle.edges.specs.Picture.{Planes, held, rowsOf}
+use Rattle.edges.specs.Inner.{Room}
 use Rattle.edges.specs.declared.Offsets.{Offsets}
 use Rattle.edges.specs.declared.Size.{Size}
 use Rattle.strengths.proofs.Sized.{Sized, sized}

@@ -1,5 +1,5 @@
--- The two halves joined: strengths that the flagless call writes for every macroblock make the whole-picture call give the standard's picture straight from
--- the grids. Assumes nothing.
+-- The two halves joined: strengths that the flagless call writes for every macroblock make the whole-picture
+-- call give the standard's picture straight from the grids. Assumes nothing.
 use mathlib.Core.Path.{_≡_, refl, sym, ap, _∙_}
 use mathlib.Core.Bool.{Bool, true, false, cond}
 use mathlib.Core.List.{List, [], _∷_}
@@ -13,12 +13,12 @@ use lib.Dec.{ltb}
 use lib.ListN.{length, getD}
 use Rattle.laws.proofs.Lists.{past}
 use Rattle.motion.specs.Grids.{Grids}
-use Rattle.edges.specs.Picture.{Planes, Held, entries, flagAt, held, frameOf}
+use Rattle.edges.specs.Picture.{Planes, entries, flagAt, heldBy, held, frameOf}
 use Rattle.edges.specs.declared.Offsets.{Offsets}
 use Rattle.edges.specs.declared.Size.{Size}
 use Rattle.strengths.specs.Calls.{PlainOutcome}
 use Rattle.strengths.specs.Filtering.{lent, FrameOutcome}
-use Rattle.strengths.specs.Standard.{ofIndex, strengthsOf, standard, pictureOf, Derived}
+use Rattle.strengths.specs.Standard.{ofIndex, strengthsOf, pictureOf, Derived}
 use Rattle.strengths.specs.Strength.{written}
 use Rattle.strengths.specs.declared.kinds.Plain.{Plain}
 use Rattle.strengths.proofs.Whole.{whole}
@@ -40,26 +40,18 @@ module _ (g : Grids) (z : Size) (t8s : List ℕ) where
           past s k (omega (arith, d .full))
           ∙ sym (ap (λ (b : Bool). cond b (ofIndex g z t8s (k / 32) (k % 32)) 0) (le-ltb k (32 * (z .w * z .h)) (omega arith)))
 
-  -- the whole-picture call on a derived grid
-  pub from-grids : (qps s : List ℕ) (o : Offsets) (p p′ : Planes) → Derived g z t8s s → FrameOutcome z o (lent s qps t8s) p 0 p′ → p′ ≡ pictureOf g z qps t8s o p
+  -- a picture filtered by a derived grid is the standard's
+  pub derived-picture : (qps s : List ℕ) (o : Offsets) (p : Planes) → Derived g z t8s s
+      → frameOf (held (z .w) s qps t8s o) (z .h) p ≡ pictureOf g z qps t8s o p
   unfolding pictureOf
-  from-grids qps s o p p′ d r =
-      whole z o (lent s qps t8s) p p′ r
-      ∙ (λ i.
-      frameOf
-      record {
-        depth = standard g z qps t8s o .depth;
-        w = z .w;
-        bs = derived-strengths s d i;
-        qp = standard g z qps t8s o .qp;
-        t8 = flagAt t8s;
-        a = o .a;
-        b = o .b;
-        chroma = o .chroma;
-      }
-      (z .h) p)
+  derived-picture qps s o p d = λ i. frameOf (heldBy (z .w) (derived-strengths s d i) qps t8s o) (z .h) p
 
-  -- ---- a derived grid is what one flagless call a macroblock leaves, in raster order, each served: s 0 before the first, s n after the last
+  -- so is what the whole-picture call leaves of it
+  pub from-grids : (qps s : List ℕ) (o : Offsets) (p p′ : Planes) → Derived g z t8s s → FrameOutcome z o (lent s qps t8s) p 0 p′ → p′ ≡ pictureOf g z qps t8s o p
+  from-grids qps s o p p′ d r = whole z o (lent s qps t8s) p p′ r ∙ derived-picture qps s o p d
+
+  -- ---- a derived grid is what one flagless call a macroblock leaves, in raster order, each served: s 0
+  -- before the first, s n after the last
   abbrev asked : ℕ → Plain
   asked i = record { x = i % z .w; y = i / z .w; t8 = flagAt t8s i }
 

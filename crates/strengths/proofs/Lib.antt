@@ -1,6 +1,7 @@
 pub mod Agreed
 pub mod Beside
 pub mod ByKind
+pub mod Examples
 pub mod Frames
 pub mod Inclusion
 pub mod Joined

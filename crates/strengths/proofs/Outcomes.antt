@@ -1,8 +1,10 @@
--- The ways out of a strength call, as its promise has them; and that the promise allows one outcome only. Assumes nothing.
+-- The ways out of a strength call, as its promise has them; and that the promise allows one outcome only.
+-- Assumes nothing.
 use mathlib.Core.Path.{_≡_, refl, sym, ap, _∙_}
 use mathlib.Core.Bool.{Bool, true, false, cond, not, _&&_, _||_}
 use mathlib.Core.List.{List, [], _∷_, _++_}
 use Prim.Native.Nat.{ℕ, _+_, _*_}
+use native.Mathlib.Decide.{ℕ-discrete}
 use borrow.Author.Tests.{eq-eqb, ne-eqb, not-false}
 use lib.Dec.{eqb}
 use lib.ListN.{length}
@@ -11,13 +13,15 @@ use Rattle.laws.proofs.Refusal.{Numbered, nonzero, passed, refusal-cut, refusal
 use Rattle.motion.specs.Grids.{Grids}
 use Rattle.strengths.specs.Checks.{disagree}
 use Rattle.strengths.specs.Strength.{strengthAt, written}
-use Rattle.strengths.specs.Kinds.{first, uniform, flat, isKind, strengthBy}
-use Rattle.strengths.specs.Flags.{kindOf}
-use Rattle.strengths.specs.Calls.{numbers, blocks, checks, answerOf, untrueFlags, Outcome}
+use Rattle.strengths.specs.Kinds.{uniform, flat, isKind}
+use Rattle.strengths.specs.ByKind.{first, strengthBy, kindOf}
+use Rattle.strengths.specs.Calls.{numbers, blocks, checks, answerOf, untrueKind, untrueFlags, Outcome, KindOutcome, FlagsOutcome, PlainOutcome}
 use Rattle.strengths.specs.declared.kinds.MbKind.{MbKind}
 use Rattle.strengths.specs.declared.kinds.MbKind.the-variants.{Intra, Skip, InterUniform, Inter}
 use Rattle.edges.specs.declared.Size.{Size}
 use Rattle.strengths.specs.declared.kinds.Flagged.{Flagged}
+use Rattle.strengths.specs.declared.kinds.Plain.{Plain}
+use Rattle.strengths.specs.declared.kinds.Request.{Request}
 use Rattle.strengths.proofs.Agreed.{inter-is, intra-is}
 use Rattle.strengths.proofs.ByKind.{kind-is}
 use Rattle.strengths.proofs.Passed.{Good, good}
@@ -73,6 +77,33 @@ module _ (z : Size) (x y : ℕ) (t8 : Bool) (g : Grids) (untrue : Bool) (s : Lis
   unique n m s₁ s₂ a b =
       let e = a .says ∙ sym (b .says) in
       (e, a .leaves ∙ ap (λ (k : ℕ). cond (eqb k 0) (written (y * z .w + x) (strengthAt g (z .w) t8 x y) s) s) e ∙ sym (b .leaves))
+
+-- ---- what is known of a macroblock changes nothing: a call with a kind or flags that is done leaves what
+-- the flagless call leaves, which is done too
+module _ (z : Size) (x y : ℕ) (t8 : Bool) (g : Grids) (untrue : Bool) (s : List ℕ) where
+  passed-all : answerOf z x y g untrue (length s) ≡ 0 → refusal (checks z x y g (length s)) ≡ 0
+  passed-all e = go (ℕ-discrete (refusal (checks z x y g (length s))) 0)
+    where
+      cut : cond (eqb (refusal (checks z x y g (length s))) 0) (cond untrue 12 0) (refusal (checks z x y g (length s))) ≡ 0
+      cut = sym (answer-cut z x y g (length s) untrue) ∙ e
+
+      go : Dec (refusal (checks z x y g (length s)) ≡ 0) → refusal (checks z x y g (length s)) ≡ 0
+      go (yes h) = h
+      go (no h) = rw (ne-eqb _ 0 h) at cut
+
+  pub as-flagless : (n : ℕ) (s₁ s₂ : List ℕ) → Outcome z x y t8 g untrue s 0 s₁ → Outcome z x y t8 g false s n s₂ → (n ≡ 0) × (s₂ ≡ s₁)
+  as-flagless n s₁ s₂ a b =
+      let e : n ≡ 0 = b .says ∙ answer-cut z x y g (length s) false ∙ ap (λ (r : ℕ). cond (eqb r 0) 0 r) (passed-all (sym (a .says))) in
+      (e, b .leaves ∙ ap (λ (k : ℕ). cond (eqb k 0) (written (y * z .w + x) (strengthAt g (z .w) t8 x y) s) s) e ∙ sym (a .leaves))
+
+-- the kind call's is the flagless one without 8x8
+pub kind-as-flagless : (z : Size) (r : Request) (g : Grids) (s s₁ s₂ : List ℕ) (n : ℕ)
+    → KindOutcome z r g s 0 s₁ → PlainOutcome z (record { x = r .x; y = r .y; t8 = false }) g s n s₂ → (n ≡ 0) × (s₂ ≡ s₁)
+kind-as-flagless z r g s s₁ s₂ n = as-flagless z (r .x) (r .y) false g (untrueKind z r g) s n s₁ s₂
+
+pub flags-as-flagless : (z : Size) (r : Flagged) (g : Grids) (s s₁ s₂ : List ℕ) (n : ℕ)
+    → FlagsOutcome z r g s 0 s₁ → PlainOutcome z (record { x = r .x; y = r .y; t8 = r .t8 }) g s n s₂ → (n ≡ 0) × (s₂ ≡ s₁)
+flags-as-flagless z r g s s₁ s₂ n = as-flagless z (r .x) (r .y) (r .t8) g (untrueFlags (z .w) r g) s n s₁ s₂
 
 -- ---- flags that are true amount to a true kind
 flag-true : (b t : Bool) → b ≡ true → (b && not t) ≡ false → t ≡ true

@@ -12,8 +12,10 @@ use Rattle.laws.proofs.Bools.{and-true, or-false, or-true, equal}
 use Rattle.laws.specs.Refusal.{refusal}
 use Rattle.laws.proofs.Grid.{row-fits}
 use Rattle.laws.proofs.Refusal.{nonzero, passed}
-use Rattle.motion.specs.Grids.{Grids, Optional, Hold}
-use Rattle.strengths.specs.Blocks.{own, Inside}
+use Rattle.motion.specs.Grids.{Grids}
+use Rattle.motion.specs.Inner.{Optional, Hold}
+use Rattle.strengths.specs.Blocks.{own}
+use Rattle.strengths.specs.Inner.{Inside}
 use Rattle.strengths.specs.Checks.{badSize}
 use Rattle.strengths.specs.Calls.{numbers}
 use Rattle.edges.specs.declared.Size.{Size}

@@ -1,4 +1,5 @@
--- Wrong calls that look right, each shown to break the promise on a small input: one macroblock of 16 blocks. Assumes nothing.
+-- Wrong calls that look right, each shown to break the promise on a small input: one macroblock of 16 blocks.
+-- Assumes nothing.
 use mathlib.Core.Path.{_≡_, refl, sym, ap, _∙_}
 use mathlib.Core.Bool.{Bool, true, false, _&&_, false≢true}
 use mathlib.Core.List.{List, [], _∷_, _++_, replicate}
@@ -10,44 +11,22 @@ use lib.IntN.{ℤ, pos, negsuc}
 use lib.ListN.{length, getD}
 use Rattle.laws.specs.Refusal.{refusal}
 use Rattle.laws.specs.Some.{some}
-use Rattle.motion.specs.Grids.{Grids, grids, blkAt}
-use Rattle.edges.specs.Picture.{Planes, planes}
-use Rattle.edges.specs.declared.Offsets.{Offsets}
-use Rattle.edges.specs.declared.Size.{Size}
+use Rattle.motion.specs.Grids.{Grids, grids}
+use Rattle.edges.specs.Picture.{Planes}
 use Rattle.strengths.specs.Blocks.{someRead}
 use Rattle.strengths.specs.Checks.{badInter, badRefs, disagree}
 use Rattle.strengths.specs.Calls.{numbers, answerOf, Outcome}
-use Rattle.strengths.specs.Filtering.{Lent, lent, over, rowAnswer, RowOutcome}
-use Rattle.strengths.specs.Strength.{edge, vertical, skipped, between, strengthAt}
+use Rattle.strengths.specs.Filtering.{Lent, lent, RowOutcome}
+use Rattle.strengths.specs.Strength.{edge, vertical, skipped, strengthAt}
+use Rattle.strengths.proofs.Examples.{one, intra, answered, outer, inner, blank, level, grey, served}
 use Rattle.strengths.proofs.Written.{written-at}
-
-abbrev one : Size
-one = record { w = 1; h = 1 }
-
--- all intra, no list 1
-abbrev intra : Grids
-intra = grids (replicate 16 0) (replicate 16 0) (replicate 16 (negsuc 0)) (replicate 32 (pos 0)) [] []
-
-abbrev blank : List ℕ
-blank = replicate 32 0
-
-answered : answerOf one 0 0 intra false 32 ≡ 0
-unfolding answerOf someRead some disagree
-answered = refl
 
 -- ---- a strength call that always refuses
 pub always-refuses : (n : ℕ) (s : List ℕ) → (n ≡ 0 → ⊥) → Outcome one 0 0 false intra false blank n s → ⊥
 always-refuses n s h r = h (r .says ∙ answered)
 
--- ---- one that writes the same strength everywhere: an intra macroblock by itself has 0 on its outer and 3 on its inner edges
-outer : strengthAt intra 1 false 0 0 0 ≡ 0
-unfolding strengthAt
-outer = refl
-
-inner : strengthAt intra 1 false 0 0 4 ≡ 3
-unfolding strengthAt between blkAt
-inner = refl
-
+-- ---- one that writes the same strength everywhere: an intra macroblock by itself has 0 on its outer and 3
+-- on its inner edges
 pub constant : (c : ℕ) (s : List ℕ) → ((k : ℕ) → k < 32 → getD s k 0 ≡ c) → Outcome one 0 0 false intra false blank 0 s → ⊥
 constant c s h r =
     let f = strengthAt intra 1 false 0 0 in
@@ -80,18 +59,8 @@ unfolding answerOf someRead some disagree
 not-exchanged e = let k : _≡_ {A = ℕ} 11 10 = e in omega arith
 
 -- ---- a filtering call that always refuses
-abbrev grey : Planes
-grey = planes (replicate 256 128) (replicate 64 128) (replicate 64 128)
-
 abbrev still : Lent
 still = lent blank (30 ∷ []) []
-
-abbrev level : Offsets
-level = record { a = pos 0; b = pos 0; chroma = pos 0 }
-
-served : rowAnswer one 0 1 level grey still ≡ 0
-unfolding rowAnswer over some
-served = refl
 
 pub rows-always-refuse : (n : ℕ) (p : Planes) → (n ≡ 0 → ⊥) → RowOutcome one 0 1 level still grey n p → ⊥
 rows-always-refuse n p h r = h (r .says ∙ served)

@@ -1,4 +1,5 @@
--- Theorems of the filtering calls: what a served and a refused call leave, an empty range, ranges that join, a whole picture, bytes. Assumes nothing.
+-- Theorems of the filtering calls: what a served and a refused call leave, an empty range, ranges that join,
+-- a whole picture, bytes. Assumes nothing.
 use mathlib.Core.Path.{_≡_, refl, sym, ap, subst, _∙_}
 use mathlib.Core.Bool.{Bool, true, false, cond, not, _&&_}
 use mathlib.Core.List.{List}
@@ -69,7 +70,8 @@ module _ (z : Size) (o : Offsets) (l : Lent) (p : Planes) where
       let k : n ≡ 0 = r .says ∙ then z a a o l p e ∙ no-values a in
       (k, r .leaves ∙ ap (λ (m : ℕ). cond (eqb m 0) (rowsOf (of z o l) a a p) p) k ∙ rows-none (of z o l) a p)
 
-  -- ---- rows a to b, then b to c, are rows a to c: the one call is served where the two are, and leaves what they leave
+  -- ---- rows a to b, then b to c, are rows a to c: the one call is served where the two are, and leaves what
+  -- they leave
   module _ (a b c : ℕ) (h : a ≤ b) (k : b ≤ c) where
     flags : badFlags (a * z .w) (b * z .w) (l .t8s) ≡ false → badFlags (b * z .w) (c * z .w) (l .t8s) ≡ false → badFlags (a * z .w) (c * z .w) (l .t8s) ≡ false
     flags = go (not (eqb (length (l .t8s)) 0))

@@ -1,5 +1,7 @@
--- The 4x4 blocks that the strengths of macroblock (x, y) read, as indices into grids with rows of 4 * w blocks: its own 16, four to the left, four above.
-use Prim.Native.Nat.{ℕ, _+_, _-_, _*_, _<_}
+-- The 4x4 blocks that the strengths of macroblock (x, y) read, as indices into grids with rows of 4 * w
+-- blocks: document 01, "Sizes and layouts" and "Numbers a call returns". They are its own 16, four to the
+-- left where x > 0, four above where y > 0: the blocks beside an edge in ITU-T H.264, clause 8.7.2.1.
+use Prim.Native.Nat.{ℕ, _+_, _-_, _*_}
 use mathlib.Core.Bool.{Bool, _&&_, _||_}
 use lib.Dec.{ltb}
 use Rattle.laws.specs.Some.{some}
@@ -29,8 +31,3 @@ someRead w x y f =
     some 4 (λ r. some 4 (λ c. f (own w x y r c)))
     || (ltb 0 x && some 4 (λ k. f (left w x y k)))
     || (ltb 0 y && some 4 (λ k. f (above w x y k)))
-
--- the macroblock's blocks lie in grids of n blocks
-pub record Inside (w x y n : ℕ) : Type 0 where
-  pub column : x < w
-  pub last : own w x y 3 3 < n

@@ -1,4 +1,6 @@
--- What the three strength calls promise: one answer and one final content of the strengths grid, for every input. The grids are only read.
+-- What the three strength calls promise: one answer and one final content of the strengths grid, for every
+-- input. The grids are only read. Document 01, "Numbers a call returns" and "What the promises have to say";
+-- the strengths are those of ITU-T H.264, clause 8.7.2.1 (`strengthAt`).
 use Prim.Native.Nat.{ℕ, _+_, _*_}
 use mathlib.Core.Path.{_≡_}
 use mathlib.Core.Bool.{Bool, false, cond, not, _&&_, _||_}
@@ -38,7 +40,8 @@ untrueKind z r g = not (isKind g (z .w) (r .x) (r .y) (r .kind))
 abbrev pub untrueFlags : ℕ → Flagged → Grids → Bool
 untrueFlags w r g = (r .flat && not (flat g w (r .x) (r .y))) || (r .uniform && not (uniform g w (r .x) (r .y)))
 
--- ---- an outcome: the answer n, and the grid before and after. A refusal leaves it as it was; else the 32 bytes of the macroblock are written and no other
+-- ---- an outcome: the answer n, and the grid before and after. A refusal leaves it as it was; else the 32
+-- bytes of the macroblock are written and no other
 pub record Outcome (z : Size) (x y : ℕ) (t8 : Bool) (g : Grids) (untrue : Bool) (s : List ℕ) (n : ℕ) (s′ : List ℕ) : Type 0 where
   pub says : n ≡ answerOf z x y g untrue (length s)
   pub leaves : s′ ≡ cond (eqb n 0) (written (y * z .w + x) (strengthAt g (z .w) t8 x y) s) s

@@ -1,5 +1,5 @@
--- What the filtering calls check and promise: document 01, "Numbers a call returns". A call is lent three planes, strengths, QPs, 8x8 flags; n is the number of
--- macroblocks.
+-- What the filtering calls check and promise: document 01, "Numbers a call returns". A call is lent three
+-- planes, strengths, QPs, 8x8 flags; n is the number of macroblocks.
 use Prim.Native.Nat.{ℕ, _+_, _-_, _*_}
 use mathlib.Core.Path.{_≡_}
 use mathlib.Core.Bool.{Bool, cond, not, _&&_, _||_}
@@ -43,7 +43,8 @@ badOffsets o = badOffset (o .a) || badOffset (o .b) || badOffset (o .chroma)
 unfoldable pub over : ℕ → ℕ → ℕ → List ℕ → Bool
 over top a b xs = some (b - a) (λ i. ltb top (getD xs (a + i) 0))
 
--- ---- rows a to b. They read their strengths, flags and QPs, and the QPs of row a - 1 where there is one and the range is not empty
+-- ---- rows a to b, of which b is not one. They read their strengths, flags and QPs, and the QPs of row a - 1
+-- where there is one and the range is not empty
 abbrev pub badRange : Size → ℕ → ℕ → Bool
 badRange z a b = ltb b a || ltb (z .h) b
 
@@ -78,11 +79,12 @@ rowChecks z a b o p l =
 unfoldable pub rowAnswer : Size → ℕ → ℕ → Offsets → Planes → Lent → ℕ
 rowAnswer z a b o p l = refusal (rowChecks z a b o p l)
 
--- an outcome: the answer n, and the planes before and after. A refusal leaves them as they were; the rest is only read
+-- an outcome: the answer n, and the planes before and after. A refusal leaves them as they were; the rest is
+-- only read
 pub record RowOutcome (z : Size) (a b : ℕ) (o : Offsets) (l : Lent) (p : Planes) (n : ℕ) (p′ : Planes) : Type 0 where
   pub says : n ≡ rowAnswer z a b o p l
   pub leaves : p′ ≡ cond (eqb n 0) (rowsOf (held (z .w) (l .strengths) (l .qps) (l .t8s) o) a b p) p
 
--- a whole picture is rows 0 to H
+-- a whole picture is rows 0 to H, of which H is not one
 abbrev pub FrameOutcome : Size → Offsets → Lent → Planes → ℕ → Planes → Type 0
 FrameOutcome z o l p n p′ = RowOutcome z 0 (z .h) o l p n p′

@@ -1,7 +1,8 @@
 pub mod Blocks
+pub mod ByKind
 pub mod Checks
 pub mod Filtering
-pub mod Flags
+pub mod Inner
 pub mod Kinds
 pub mod Standard
 pub mod Strength

@@ -1,14 +1,13 @@
--- A whole picture straight from its 4x4 grids: ITU-T H.264, clauses 8.7 and 8.7.2.1 in one. The strengths are those of the standard, and no call stores them.
+-- A whole picture straight from its 4x4 grids: ITU-T H.264, clauses 8.7 and 8.7.2.1 in one. The strengths are
+-- those of the standard, and no call stores them.
 use Prim.Native.Nat.{ℕ, _+_, _*_, _/_, _%_, _<_}
 use mathlib.Core.Path.{_≡_}
 use mathlib.Core.Bool.{cond}
 use mathlib.Core.List.{List}
 use lib.Dec.{ltb}
-use lib.IntN.{pos}
 use lib.ListN.{length, getD}
 use Rattle.motion.specs.Grids.{Grids}
-use Rattle.edges.specs.Depth.{eight}
-use Rattle.edges.specs.Picture.{Planes, Held, entries, flagAt, frameOf}
+use Rattle.edges.specs.Picture.{Planes, Held, flagAt, heldBy, frameOf}
 use Rattle.edges.specs.declared.Offsets.{Offsets}
 use Rattle.edges.specs.declared.Size.{Size}
 use Rattle.strengths.specs.Strength.{strengthAt}
@@ -21,16 +20,7 @@ unfoldable pub strengthsOf : Grids → Size → List ℕ → ℕ → ℕ
 strengthsOf g z t8s k = cond (ltb k (32 * (z .w * z .h))) (ofIndex g z t8s (k / 32) (k % 32)) 0
 
 abbrev pub standard : Grids → Size → List ℕ → List ℕ → Offsets → Held
-standard g z qps t8s o = record {
-  depth = eight;
-  w = z .w;
-  bs = strengthsOf g z t8s;
-  qp = λ i. pos (entries qps i);
-  t8 = flagAt t8s;
-  a = o .a;
-  b = o .b;
-  chroma = o .chroma;
-}
+standard g z qps t8s = heldBy (z .w) (strengthsOf g z t8s) qps t8s
 
 unfoldable pub pictureOf : Grids → Size → List ℕ → List ℕ → Offsets → Planes → Planes
 pictureOf g z qps t8s o = frameOf (standard g z qps t8s o) (z .h)

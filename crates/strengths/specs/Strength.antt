@@ -1,5 +1,6 @@
--- The 32 strengths of a macroblock, straight from the grids: ITU-T H.264, clause 8.7.2.1, for progressive frames. Byte k is segment k % 4 of edge k / 4 % 4, vertical edges
--- first. Between blocks p and q an edge lies to the left of q or above it.
+-- The 32 strengths of a macroblock, straight from the grids: ITU-T H.264, clause 8.7.2.1, for progressive
+-- frames. Byte k is segment k % 4 of edge k / 4 % 4, vertical edges first. Between blocks p and q an edge
+-- lies to the left of q or above it.
 use Prim.Native.Nat.{ℕ, _+_, _-_, _*_, _/_, _%_}
 use mathlib.Core.Bool.{Bool, cond, not, _&&_, _||_}
 use mathlib.Core.List.{List}
@@ -38,7 +39,8 @@ pBlock w x y k = qBlock w x y k - cond (vertical k) 1 (4 * w)
 abbrev pub border : ℕ → ℕ → ℕ → Bool
 border x y k = eqb (edge k) 0 && eqb (cond (vertical k) x y) 0
 
--- ---- 4 on an outer and 3 on an inner edge beside an intra block; else by coefficients and motion, where 3 is the most by which near vectors differ
+-- ---- 4 on an outer and 3 on an inner edge beside an intra block; else by coefficients and motion, where 3
+-- is the most by which near vectors differ
 unfoldable pub between : Bool → Blk → Blk → ℕ
 between outer p q = cond (p .inter && q .inter) (interStrength 3 p q) (cond outer 4 3)
 

@@ -2,11 +2,14 @@
 ghost use mathlib.Core.Path.{_≡_};
 ghost use mathlib.Core.Bool.{false};
 ghost use Prim.Native.Nat.{_+_};
-ghost use Rattle.motion.specs.Grids.{grids, Hold};
-ghost use Rattle.strengths.specs.Blocks.{own, Inside};
+ghost use Rattle.motion.specs.Grids.{grids};
+ghost use Rattle.motion.specs.Inner.{Hold};
+ghost use Rattle.strengths.specs.Blocks.{own};
+ghost use Rattle.strengths.specs.Inner.{Inside};
 ghost use Rattle.strengths.specs.Checks.{disagree};
 ghost use lib.ListN.{length};
-ghost use Rattle.strengths.specs.Kinds.{isKind, first};
+ghost use Rattle.strengths.specs.Kinds.{isKind};
+ghost use Rattle.strengths.specs.ByKind.{first};
 ghost use Rattle.strengths.specs.Calls.{untrueFlags, KindOutcome, FlagsOutcome, PlainOutcome};
 use crate::checks::refuse;
 use crate::derive::derive;

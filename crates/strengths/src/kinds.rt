@@ -1,6 +1,6 @@
 // What a caller may know of a macroblock beforehand, and the requests that carry it beside the coordinates.
 ghost use mathlib.Core.Path.{_≡_};
-ghost use Rattle.strengths.specs.Flags.{kindBy, kindOf};
+ghost use Rattle.strengths.specs.ByKind.{kindBy, kindOf};
 
 pub enum MbKind {
     Intra,

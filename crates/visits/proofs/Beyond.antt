@@ -1,4 +1,5 @@
--- Beyond demand 3, with valid data throughout: visits in rounds filter the picture, and two that are ready may be made in either order. Assumes nothing.
+-- Beyond demand 3, with valid data throughout: visits in rounds filter the picture, and two that are ready
+-- may be made in either order. Assumes nothing.
 use mathlib.Core.Path.{_≡_, sym, _∙_}
 use mathlib.Core.Logic.{_≢_}
 use mathlib.Core.List.{List, [], _∷_}
@@ -7,7 +8,7 @@ use lib.ListN.{length}
 use Rattle.edges.specs.Picture.{Planes, stepOf, frameOf}
 use Rattle.edges.proofs.Pictures.{frame-steps}
 use Rattle.visits.specs.Visit.{At, State, fresh, run}
-use Rattle.visits.specs.AnyOrder.{Bits}
+use Rattle.visits.specs.Beyond.{Bits}
 use Rattle.visits.specs.Rounds.{Full, Schedule, asRequests, roundsFor}
 use Rattle.visits.specs.Checks.{Given, heldOf, earlyOf, Sound, Fit}
 use Rattle.visits.specs.Promise.{visitOf, unvisited}
@@ -16,7 +17,7 @@ use Rattle.visits.proofs.Commute as commute
 use Rattle.visits.proofs.RoundsRun as rounds
 use Rattle.visits.proofs.RoundsRun.{good-visit}
 use Rattle.visits.proofs.Instance.{asks-place, commutes, fit-kept, passes-valid}
-use Rattle.visits.proofs.Demand3.{demand-3}
+use Rattle.visits.proofs.Demand3.{beyond-3}
 
 module _ (d : Given) (wide : 0 < d .size .w) (v : Sound d) where
   -- full rounds filter the whole picture: W + 2 * (H - 1) of them, H where W is 1
@@ -24,7 +25,7 @@ module _ (d : Given) (wide : 0 < d .size .w) (v : Sound d) where
       → roundsFor (d .size .w) (d .size .h) ≤ length rs → (start : Planes) → Fit d start
       → run (visitOf d) (asRequests (d .size .w) rs) (unvisited d start) .0 ≡ frameOf (heldOf d) (d .size .h) start
   rounds-filter c l start f =
-      rounds.rounds-filter (d .size .w) (d .size .h) (stepOf (heldOf d)) (earlyOf d) (asks-place d) (Fit d) (fit-kept d) (passes-valid d v) (demand-3 d wide) c l start f
+      rounds.rounds-filter (d .size .w) (d .size .h) (stepOf (heldOf d)) (earlyOf d) (asks-place d) (Fit d) (fit-kept d) (passes-valid d v) (beyond-3 d wide) c l start f
       ∙ sym (frame-steps (heldOf d) (d .size .h) start)
 
   -- two visits that are both ready may be made in either order

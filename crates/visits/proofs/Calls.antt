@@ -1,5 +1,5 @@
--- Calls that each keep the contract of a visit come to `run` and `answers`, so demand 3 holds of them; and the laws of a loop that makes them:
--- its start, a turn, its end. Assumes nothing.
+-- Calls that each keep the contract of a visit come to `run` and `answers`, so demand 3 holds of them; and
+-- the laws of a loop that makes them: its start, a turn, its end. Assumes nothing.
 use mathlib.Core.Path.{_≡_, refl, sym, ap, _∙_}
 use mathlib.Core.List.{List, [], _∷_, _++_, append-nil, zip, zipWith}
 use Prim.Native.Nat.{ℕ, zero, suc, _+_, _≤_, _<_}
@@ -9,8 +9,11 @@ use native.Mathlib.Omega.{arith}
 use lib.ListN.{length, getD, set, take, drop, drop-of-length-le}
 use lib.Seq.{drop-cons, take-suc-set, append-snoc, take-all}
 use Rattle.visits.specs.Visit.{At, State, Call, fresh, visit, Outcome, run, answers}
-use Rattle.visits.specs.AnyOrder.{AsksPlace, Commutes, AnyOrder}
-use Rattle.visits.specs.Calls.{requests, Calls, none, more, Served}
+use Rattle.visits.specs.AnyOrder.{AnyOrder}
+use Rattle.visits.specs.Instance.{AsksPlace, Commutes}
+use Rattle.visits.specs.Calls.{Calls, none, more}
+use Rattle.visits.specs.Promise.{requests}
+use Rattle.visits.specs.Inner.{Served}
 use Rattle.visits.proofs.Outcome.{outcome-is-visit}
 use Rattle.visits.proofs.AnyOrder.{any-order}
 
@@ -78,9 +81,9 @@ served-all {rs = rs} {k = k} {out = out} h l v = (rw e at (v .state), rw (e, app
     e : drop k rs ≡ []
     e = drop-of-length-le rs {i = k} h
 
--- ---- demand 3 over the contracts alone
+-- ---- demand 3 over the contracts alone, and the numbers that the calls answered
 pub calls-any-order : (W H : ℕ) {S : Type 0} (step : ℕ → S → S) (early : State S → At → ℕ) → AsksPlace W H early → Commutes W step
     → {start : S} {rs : List At} {ns : List ℕ} {now : State S} → Calls W step early (start, fresh W H) rs ns now
-    → AnyOrder W H step early (visit W step early) start now
+    → AnyOrder W H step early (visit W step early) start now × (ns ≡ answers (visit W step early) rs (start, fresh W H))
 calls-any-order W H step early inside swap {start = start} {rs = rs} c =
-    rw (calls-run c .0) (any-order W H step early inside swap start rs)
+    (rw (calls-run c .0) (any-order W H step early inside swap start rs), calls-run c .1)

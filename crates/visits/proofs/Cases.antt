@@ -1,23 +1,61 @@
--- The twelve cases of the proved table hold of the definitions, as one statement. Each is computed, P1 to P11 in the crates of their definitions. Assumes
--- nothing.
+-- The twelve cases of the proved table hold of the definitions, as one statement. Each is computed, P1 to P11
+-- in the crates of their definitions. Assumes nothing.
 use mathlib.Core.Path.{_≡_, refl}
 use mathlib.Core.List.{List, [], _∷_, _++_, map}
-use Prim.Native.Nat.{ℕ}
+use Prim.Native.Nat.{ℕ, _<_}
+use native.Mathlib.Omega.{arith}
+use borrow.Author.Tests.{eq-eqb}
+use lib.Dec.{T}
+use lib.ListN.{replicate}
 use Rattle.laws.specs.Cases.{Case, Holds}
 use Rattle.lines.specs.Cases as lines
 use Rattle.lines.proofs.Cases as lines-proved
 use Rattle.motion.specs.Cases as motion
 use Rattle.motion.proofs.Cases as motion-proved
+use Rattle.laws.proofs.Table.{bounded, at-most}
+use Rattle.edges.specs.Picture.{Planes, stepOf}
 use Rattle.visits.specs.Visit.{waiting, answer, visit}
-use Rattle.visits.specs.Cases.{cases, twelve}
+use Rattle.visits.specs.Checks.{heldOf, earlyOf, Sound, Fit}
+use Rattle.visits.specs.Fault.{band, outer, faultGiven, faultHeld}
+use Rattle.visits.specs.Promise.{visitOf}
+use Rattle.visits.specs.Cases.{square, columnGiven, column, asked, cases, twelve}
+use Rattle.visits.proofs.Fault.{old-clear}
+use Rattle.visits.proofs.Instance.{fit-kept, passes-valid}
+use Rattle.visits.proofs.Old.{ours-refuses}
 
 holds-join : (cs ds : List Case) → Holds cs → Holds ds → Holds (cs ++ ds)
 holds-join [] ds h k = k
 holds-join (c ∷ cs) ds h k = (h .0, holds-join cs ds (h .1) k)
 
+-- ---- P12. 2 by 2: (0, 1) is refused, since its upper right neighbour is unvisited
+square-asked : asked faultGiven square ≡ 0 ∷ 14 ∷ []
+square-asked = ours-refuses (stepOf faultHeld) (earlyOf faultGiven) square (old-clear (replicate 256 128) (replicate 256 128) refl refl)
+
+-- 1 by 2: there is none
+column-sound : Sound columnGiven
+column-sound = record { sides = refl; lengths = refl; range = refl; flag = at-most 1 [] tt; qp = at-most 51 (40 ∷ 40 ∷ []) tt; strength = at-most 4 (outer 0 0 ++ outer 0 1) tt }
+
+column-fit : Fit columnGiven column
+unfolding band
+column-fit = record { luma = refl; cb = refl; cr = refl }
+
+column-clear : (p : Planes) → Fit columnGiven p → (a b y : ℕ) → T (bounded 1 (a ∷ b ∷ [])) → y < 2 → earlyOf columnGiven (p, a ∷ b ∷ []) (0, y) ≡ 0
+column-clear p f a b y m h = passes-valid columnGiven column-sound (p, a ∷ b ∷ []) f refl (at-most 1 (a ∷ b ∷ []) m) 0 y (omega arith) h
+
+column-first : visitOf columnGiven (column, 0 ∷ 0 ∷ []) (0, 0) ≡ (0, (stepOf (heldOf columnGiven) 0 column, 1 ∷ 0 ∷ []))
+unfolding visit answer waiting
+column-first = rw (eq-eqb _ 0 (column-clear column column-fit 0 0 0 tt (omega arith)))
+
+column-second : (p : Planes) → Fit columnGiven p → visitOf columnGiven (p, 1 ∷ 0 ∷ []) (0, 1) .0 ≡ 0
+unfolding visit answer waiting
+column-second p f = rw (eq-eqb _ 0 (column-clear p f 1 0 1 tt (omega arith)))
+
+column-asked : asked columnGiven column ≡ 0 ∷ 0 ∷ []
+column-asked = rw (column-first, column-second _ (fit-kept columnGiven 0 column column-fit))
+
 cases-hold : Holds cases
-unfolding cases visit answer waiting
-cases-hold = (refl, tt)
+unfolding cases
+cases-hold = (λ i. square-asked i ++ column-asked i, tt)
 
 pub twelve-hold : Holds twelve
 unfolding lines.cases cases

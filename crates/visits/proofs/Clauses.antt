@@ -1,4 +1,5 @@
--- Demand 3 clause by clause, of `visit` at any state: each answer exactly, and what is left afterwards. Assumes nothing.
+-- Demand 3 clause by clause, of `visit` at any state: each answer exactly, and what is left afterwards.
+-- Assumes nothing.
 use mathlib.Core.Path.{_≡_, sym, _∙_}
 use mathlib.Core.Logic.{_≢_, _↔_}
 use Prim.Native.Nat.{ℕ, _+_, _*_, _≤_, _<_}
@@ -9,7 +10,9 @@ use lib.Dec.{eqb}
 use lib.ListN.{getD, set}
 use Rattle.laws.proofs.Cond.{cond-both}
 use Rattle.visits.specs.Visit.{At, State, answer, visit}
-use Rattle.visits.specs.AnyOrder.{Bits, AsksPlace, Visited, Unvisited, Waits}
+use Rattle.visits.specs.AnyOrder.{Visited, Unvisited, Waits}
+use Rattle.visits.specs.Instance.{AsksPlace}
+use Rattle.visits.specs.Beyond.{Bits}
 use Rattle.visits.proofs.Marks.{set-kept}
 use Rattle.visits.proofs.Verdict.{Verdict, earlier, already, waits, free, verdict}
 

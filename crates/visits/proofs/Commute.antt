@@ -8,10 +8,10 @@ use native.Mathlib.Omega.{arith}
 use lib.Arith.{digits-div, digits-mod}
 use lib.ListN.{set}
 use lib.Seq.{set-comm, getD-set-other}
-use Rattle.laws.specs.Raster.{Marked, Ready}
-use Rattle.laws.specs.Grid.{Dep}
+use Rattle.laws.specs.Raster.{Marked}
+use Rattle.laws.specs.Order.{Ready, Dep}
 use Rattle.visits.specs.Visit.{At, State, visit, run, answers}
-use Rattle.visits.specs.AnyOrder.{AsksPlace, Commutes}
+use Rattle.visits.specs.Instance.{AsksPlace, Commutes}
 use Rattle.visits.proofs.Neighbours.{free→ready}
 use Rattle.visits.proofs.Marks.{still-free}
 use Rattle.visits.proofs.Clauses.{Passed, passed, done-where-ready}

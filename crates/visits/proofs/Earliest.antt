@@ -1,4 +1,5 @@
--- The rounds of macroblocks: what (x, y) waits for has an earlier round, and one of them the round just before. Assumes nothing.
+-- The rounds of macroblocks: what (x, y) waits for has an earlier round, and one of them the round just
+-- before. Assumes nothing.
 use mathlib.Core.Path.{_≡_, refl}
 use mathlib.Core.Logic.{_≢_}
 use Prim.Native.Nat.{ℕ, _+_, _-_, _*_, _/_, _%_, _<_}
@@ -7,7 +8,8 @@ use native.Mathlib.Decide.{ℕ-discrete}
 use native.Mathlib.Omega.{arith}
 use borrow.Author.Tests.{eq-eqb, ne-eqb}
 use lib.Arith.{digits-div, digits-mod}
-use Rattle.laws.specs.Grid.{Near, is-left, is-up, is-up-right, Dep}
+use Rattle.laws.specs.Grid.{Near, is-left, is-up, is-up-right}
+use Rattle.laws.specs.Order.{Dep}
 use Rattle.visits.specs.Rounds.{earliest, roundsFor}
 use Rattle.visits.proofs.Neighbours.{near→dep}
 

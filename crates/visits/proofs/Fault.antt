@@ -1,5 +1,6 @@
--- The fault of the old release, with the real filter: on the picture of Fault.antt its rule allows an order after which a luma sample is another one than in
--- raster order. The samples are computed; chroma may be anything. Assumes nothing.
+-- The fault of the old release, with the real filter: on the picture of Fault.antt its rule allows an order
+-- after which a luma sample is another one than in raster order. The samples are computed; chroma may be
+-- anything. Assumes nothing.
 use mathlib.Core.Path.{_≡_, refl, sym, ap, _∙_}
 use mathlib.Core.Bool.{true}
 use mathlib.Core.List.{List, [], _∷_}

@@ -1,5 +1,6 @@
--- What demand 3 asks of an instance, of the filter and the checks here: check 2 is among the earlier ones, steps commute unless the later waits for the
--- earlier, and with valid data no earlier check applies inside the picture. Assumes nothing.
+-- What demand 3 asks of an instance, of the filter and the checks here: check 2 is among the earlier ones,
+-- steps commute unless the later waits for the earlier, and with valid data no earlier check applies inside
+-- the picture. Assumes nothing.
 use mathlib.Core.Path.{_≡_, refl, _∙_}
 use mathlib.Core.Bool.{Bool, false, not, _&&_}
 use mathlib.Core.List.{List}
@@ -12,7 +13,8 @@ use Rattle.edges.specs.Picture.{Planes, stepOf}
 use Rattle.edges.proofs.Steps.{step-commute}
 use Rattle.edges.proofs.Pictures.{macroblock-sized}
 use Rattle.strengths.specs.Filtering.{over}
-use Rattle.visits.specs.AnyOrder.{Bits, AsksPlace, Commutes, Passes}
+use Rattle.visits.specs.Instance.{AsksPlace, Commutes, Passes}
+use Rattle.visits.specs.Beyond.{Bits}
 use Rattle.visits.specs.Checks.{Given, heldOf, badMarks, badQps, checks, earlyOf, Sound, Fit}
 use Rattle.laws.proofs.Bools.{and-false}
 use Rattle.laws.proofs.Refusal.{none-applies}

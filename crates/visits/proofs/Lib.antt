@@ -18,7 +18,6 @@ pub mod Progress
 pub mod Refused
 pub mod Rounds
 pub mod RoundsRun
-pub mod Toy
 pub mod Unique
 pub mod Unseen
 pub mod Verdict

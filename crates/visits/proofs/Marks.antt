@@ -1,4 +1,5 @@
--- Marks: they are 0 or 1, setting one takes none back, and while one is not set, one that waits for none is not. Assumes nothing.
+-- Marks: they are 0 or 1, setting one takes none back, and while one is not set, one that waits for none is
+-- not. Assumes nothing.
 use mathlib.Core.Path.{_≡_, refl, sym, _∙_}
 use mathlib.Core.Logic.{_⊎_, inl, inr}
 use mathlib.Core.List.{List}
@@ -8,12 +9,13 @@ use native.Mathlib.Decide.{ℕ-discrete, decLt}
 use native.Mathlib.Omega.{arith}
 use lib.ListN.{length, getD, set, replicate, length-replicate, getD-replicate}
 use lib.Seq.{ext-getD, getD-set-same, getD-set-other, set-out}
-use Rattle.laws.specs.Raster.{Marked, Ready}
-use Rattle.laws.specs.Grid.{Dep}
+use Rattle.laws.specs.Raster.{Marked}
+use Rattle.laws.specs.Order.{Ready, Dep}
 use Rattle.laws.proofs.Raster.{progress}
 use Rattle.laws.proofs.Grid.{dep-lt}
 use Rattle.visits.specs.Visit.{fresh}
-use Rattle.visits.specs.AnyOrder.{Bits, Waits, AllVisited, Free}
+use Rattle.visits.specs.AnyOrder.{Waits, AllVisited, Free}
+use Rattle.visits.specs.Beyond.{Bits}
 use Rattle.visits.proofs.Neighbours.{ready→free, index→all}
 
 -- general: what holds of the new value and of the old one at j holds at j once the value is set somewhere

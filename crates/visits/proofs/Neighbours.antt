@@ -10,8 +10,9 @@ use native.Mathlib.Omega.{arith}
 use lib.Arith.{digits-div, digits-mod}
 use lib.Dec.{T, ltb, ltb→lt, lt→ltb, eqb→eq, T-not, not-T}
 use lib.ListN.{getD}
-use Rattle.laws.specs.Raster.{Marked, Ready}
-use Rattle.laws.specs.Grid.{Near, is-left, is-up, is-up-right, Dep}
+use Rattle.laws.specs.Raster.{Marked}
+use Rattle.laws.specs.Order.{Ready, Dep}
+use Rattle.laws.specs.Grid.{Near, is-left, is-up, is-up-right}
 use Rattle.laws.proofs.Grid.{index-lt}
 use Rattle.visits.specs.Visit.{marked, lacksLeft, lacksUpper, lacksUpperRight, waiting}
 use Rattle.visits.specs.AnyOrder.{Visited, Unvisited, Waits, AllVisited}

@@ -1,5 +1,5 @@
--- The old rule on a picture of 2 by 2, for any filter: what its order comes to, what raster order comes to, and that ours refuses it. One sample in
--- which the two differ refutes the old rule. Assumes nothing.
+-- The old rule on a picture of 2 by 2, for any filter: what its order comes to, what raster order comes to,
+-- and that ours refuses it. One sample in which the two differ refutes the old rule. Assumes nothing.
 use mathlib.Core.Path.{_≡_, refl, ap, _∙_}
 use mathlib.Core.List.{List, [], _∷_}
 use Prim.Native.Nat.{ℕ}
@@ -11,11 +11,6 @@ use Rattle.visits.specs.Old.{oldWaiting, oldAnswer, oldVisit, oldOrder, 
 
 pub run-on : {S : Type 0} (call : Call S) (rs : List At) {s t : State S} {r : At} {n : ℕ} → call s r ≡ (n, t) → run call (r ∷ rs) s ≡ run call rs t
 run-on {S} call rs e = ap (λ (p : ℕ × State S). run call rs (p .1)) e
-
--- the whole picture
-pub raster-of-four : {S : Type 0} (step : ℕ → S → S) (s : S) → upTo 4 step s ≡ step 3 (step 2 (step 1 (step 0 s)))
-unfolding upTo
-raster-of-four step s = refl
 
 module _ {S : Type 0} (step : ℕ → S → S) (early : State S → At → ℕ) (s : S) where
   -- no earlier check applies to the four visits

@@ -10,11 +10,12 @@ use lib.ListN.{length}
 use Rattle.laws.specs.Refusal.{refusal}
 use Rattle.laws.proofs.Refusal.{Numbered, nonzero, passed, refusal-cut, refusal-left}
 use Rattle.laws.proofs.Grid.{index-lt, row-fits}
-use Rattle.edges.specs.Picture.{Room}
+use Rattle.edges.specs.Inner.{Room}
 use Rattle.laws.proofs.Bools.{or-false, equal, full}
 use Rattle.strengths.proofs.Sized.{Sized, sized}
 use Rattle.visits.specs.Visit.{At}
-use Rattle.visits.specs.Checks.{Given, Inside, numbers, values, checks}
+use Rattle.visits.specs.Checks.{Given, numbers, values, checks}
+use Rattle.visits.specs.Inner.{Inside}
 
 -- what they leave: ly, lu, lv, lm are the lengths of planes and marks
 pub record Good (d : Given) (ly lu lv lm : ℕ) (r : At) : Type 0 where

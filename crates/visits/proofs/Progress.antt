@@ -1,4 +1,5 @@
--- "While one is unvisited, some visit is ready": and it answers 0 where no earlier check applies, as with valid data throughout. Assumes nothing.
+-- "While one is unvisited, some visit is ready": and it answers 0 where no earlier check applies, as with
+-- valid data throughout. Assumes nothing.
 use mathlib.Core.Path.{_≡_, sym, subst}
 use mathlib.Core.Logic.{_⊎_, inl, inr}
 use mathlib.Core.List.{List}
@@ -9,23 +10,27 @@ use Rattle.laws.specs.Raster.{onMark}
 use Rattle.laws.proofs.Cond.{cond-both}
 use Rattle.laws.proofs.Loop.{upTo-keeps}
 use Rattle.visits.specs.Visit.{At, State, Call, fresh, run}
-use Rattle.visits.specs.AnyOrder.{Passes, AllVisited, Free, AnyOrder, Demand3}
+use Rattle.visits.specs.AnyOrder.{AllVisited, Free, AnyOrder, Demand3}
+use Rattle.visits.specs.Beyond.{Beyond3}
+use Rattle.visits.specs.Instance.{Passes}
 
 module _ (W H : ℕ) {S : Type 0} (step : ℕ → S → S) (early : State S → At → ℕ) (call : Call S) where
   pub some-answers-0 : {start : S} (now : State S) → AnyOrder W H step early call start now → ((x y : ℕ) → x < W → y < H → early now (x, y) ≡ 0)
       → AllVisited W H (now .1) ⊎ ((x : ℕ) × (y : ℕ) × (x < W) × (y < H) × (call now (x, y) .0 ≡ 0))
   some-answers-0 now a clear = go (a .some-ready)
     where
-      go : AllVisited W H (now .1) ⊎ Free W H (now .1) → AllVisited W H (now .1) ⊎ ((x : ℕ) × (y : ℕ) × (x < W) × (y < H) × (call now (x, y) .0 ≡ 0))
+      go : AllVisited W H (now .1) ⊎ ((f : Free W H (now .1)) × (early now (f .x, f .y) ≡ 0 → call now (f .x, f .y) .0 ≡ 0))
+          → AllVisited W H (now .1) ⊎ ((x : ℕ) × (y : ℕ) × (x < W) × (y < H) × (call now (x, y) .0 ≡ 0))
       go (inl all) = inl all
-      go (inr f) = inr (f .x, f .y, f .column, f .row, a .done (f .x) (f .y) (clear (f .x) (f .y) (f .column) (f .row)) (f .unvisited) (f .ready))
+      go (inr (f, answers)) = inr (f .x, f .y, f .column, f .row, answers (clear (f .x) (f .y) (f .column) (f .row)))
 
-  -- with valid data throughout, which each step keeps so: after any requests all are visited, or some visit answers 0
+  -- with valid data throughout, which each step keeps so: after any requests all are visited, or some visit
+  -- answers 0
   pub never-stuck : (Valid : S → Type 0) → ((i : ℕ) (s : S) → Valid s → Valid (step i s)) → Passes W H early Valid → Demand3 W H step early call
-      → (start : S) → Valid start → (rs : List At)
+      → Beyond3 W H step early call → (start : S) → Valid start → (rs : List At)
       → AllVisited W H (run call rs (start, fresh W H) .1)
       ⊎ ((x : ℕ) × (y : ℕ) × (x < W) × (y < H) × (call (run call rs (start, fresh W H)) (x, y) .0 ≡ 0))
-  never-stuck Valid kept clear D start v rs = some-answers-0 now a (clear now valid (a .size) (a .bits))
+  never-stuck Valid kept clear D E start v rs = some-answers-0 now a (clear now valid (E start rs .size) (E start rs .bits))
     where
       now : State S
       now = run call rs (start, fresh W H)

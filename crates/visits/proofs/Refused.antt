@@ -1,6 +1,7 @@
--- Wrong visits. Each is written out and shown to contradict demand 3, or the promise of one visit, for any filter that does anything. Assumes nothing.
+-- Wrong visits. Each is written out and shown to contradict demand 3, or the promise of one visit, for any
+-- filter that does anything. Assumes nothing.
 use mathlib.Core.Path.{_≡_, refl, sym, ap, _∙_}
-use mathlib.Core.Logic.{_≢_}
+use mathlib.Core.Logic.{_≢_, _⊎_, inl, inr}
 use mathlib.Core.Bool.{Bool, true, cond, _&&_}
 use mathlib.Core.List.{List, [], _∷_}
 use Prim.Native.Nat.{ℕ, _+_, _*_, _<_}
@@ -9,22 +10,13 @@ use borrow.Author.Tests.{eq-eqb}
 use lib.Dec.{eqb}
 use lib.ListN.{getD, set}
 use Rattle.laws.specs.Loop.{upTo}
-use Rattle.laws.specs.Grid.{Near, is-left, is-up, is-up-right}
+use Rattle.laws.specs.Grid.{is-up-right}
 use Rattle.laws.proofs.Grid.{index-lt}
 use Rattle.visits.specs.Visit.{At, State, Call, fresh, marked, waiting, orElse, answer, serve, visit, Outcome}
-use Rattle.visits.specs.AnyOrder.{AnyOrder, Demand3, Waits}
+use Rattle.visits.specs.AnyOrder.{AllVisited, Free, AnyOrder, Demand3, Waits}
 use Rattle.visits.specs.Old.{oldVisit}
 use Rattle.visits.proofs.Marks.{fresh-none}
 use Rattle.visits.proofs.Old.{OldClear, old-1, old-2, run-on}
-
--- (0, 0) waits for none
-origin-free : (W H : ℕ) (ms : List ℕ) → Waits W H ms 0 0 → ⊥
-origin-free W H ms w = go (w .near)
-  where
-    go : Near (w .nx) (w .ny) 0 0 → ⊥
-    go (is-left e f) = omega arith
-    go (is-up e f) = omega arith
-    go (is-up-right e f) = omega arith
 
 -- no mark is set
 abbrev pub noneMarked : List ℕ → Bool
@@ -49,11 +41,14 @@ module _ (W : ℕ) {S : Type 0} (step : ℕ → S → S) (early : State S → At
   marksRefused s r = (answer W early s r, (serve W step (answer W early s r) s r .0, set (s .1) (r .1 * W + r .0) 1))
 
 module _ {S : Type 0} (step : ℕ → S → S) (early : State S → At → ℕ) (s : S) where
-  -- with whatever numbers: in every picture (0, 0) is ready at the start
-  pub always-refuses : (W H : ℕ) → 0 < W → 0 < H → early (s, fresh W H) (0, 0) ≡ 0
+  -- with whatever numbers: at the start some visit is ready
+  pub always-refuses : (W H : ℕ) → 0 < W → 0 < H → ((x y : ℕ) → x < W → y < H → early (s, fresh W H) (x, y) ≡ 0)
       → (number : State S → At → ℕ) → ((t : State S) (r : At) → number t r ≢ 0) → Demand3 W H step early (λ t r. (number t r, t)) → ⊥
-  always-refuses W H w h e number never d =
-      never (s, fresh W H) (0, 0) (d s [] .done 0 0 e (fresh-none (W * H) (0 * W + 0) (index-lt W H 0 0 w h)) (origin-free W H (fresh W H)))
+  always-refuses W H w h clear number never d = go (d s [] .some-ready)
+    where
+      go : AllVisited W H (fresh W H) ⊎ ((f : Free W H (fresh W H)) × (early (s, fresh W H) (f .x, f .y) ≡ 0 → number (s, fresh W H) (f .x, f .y) ≡ 0)) → ⊥
+      go (inl all) = fresh-none (W * H) (0 * W + 0) (index-lt W H 0 0 w h) (all 0 0 w h)
+      go (inr (f, answers)) = never (s, fresh W H) (f .x, f .y) (answers (clear (f .x) (f .y) (f .column) (f .row)))
 
   -- one macroblock, visited
   pub planes-untouched : early (s, 0 ∷ []) (0, 0) ≡ 0 → step 0 s ≢ s → Demand3 1 1 step early (idleVisit 1 step early) → ⊥
@@ -101,7 +96,8 @@ module _ {S : Type 0} (step : ℕ → S → S) (early : State S → At → ℕ) 
         unvisited = λ m. omega arith;
       }
 
-  -- 13 comes first. A run from nothing visited never meets the two together (Unseen.antt), so it is the promise of one visit that tells
+  -- 13 comes first. A run from nothing visited never meets the two together (Unseen.antt), so it is the
+  -- promise of one visit that tells
   pub ready-first : early (s, 0 ∷ 1 ∷ []) (1, 0) ≡ 0 → (t : State S)
       → Outcome 2 step early (s, 0 ∷ 1 ∷ []) (1, 0) (readyFirst 2 step early (s, 0 ∷ 1 ∷ []) (1, 0)) t → ⊥
   unfolding answer waiting

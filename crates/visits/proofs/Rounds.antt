@@ -1,4 +1,5 @@
--- Rounds: full ones finish the picture in W + 2 * (H - 1), H where W is 1, and no schedule does it in fewer. Assumes nothing.
+-- Rounds: full ones finish the picture in W + 2 * (H - 1), H where W is 1, and no schedule does it in fewer.
+-- Assumes nothing.
 use mathlib.Core.Path.{_≡_, refl, sym, ap, subst, _∙_}
 use mathlib.Core.Logic.{_⊎_, inl, inr}
 use mathlib.Core.List.{List, [], _∷_, List·Memᴰ·head, List·Memᴰ·tail, List·Memᴰ·not-nil, List·Memᴰ·cases-cons}
@@ -8,9 +9,9 @@ use native.Mathlib.Nat.{not-suc-le-zero, add-zero}
 use native.Mathlib.Omega.{arith}
 use lib.ListN.{length, set, getD, length-set, length-replicate}
 use lib.Seq.{getD-set-other}
-use Rattle.laws.specs.Places.{All, Among}
-use Rattle.laws.specs.Raster.{Marked, Ready}
-use Rattle.laws.specs.Grid.{Dep}
+use Rattle.laws.specs.Local.{All, Among}
+use Rattle.laws.specs.Raster.{Marked}
+use Rattle.laws.specs.Order.{Ready, Dep}
 use Rattle.laws.proofs.Places.{all-among}
 use Rattle.laws.proofs.Raster.{mark-same}
 use Rattle.laws.proofs.Grid.{dep-lt, index-lt}

@@ -1,4 +1,5 @@
--- Rounds made as visits: with valid data throughout they leave the schedule's marks, and finished ones the whole filtered picture. Assumes nothing.
+-- Rounds made as visits: with valid data throughout they leave the schedule's marks, and finished ones the
+-- whole filtered picture. Assumes nothing.
 use mathlib.Core.Path.{_≡_, refl, sym, ap, subst, _∙_}
 use mathlib.Core.List.{List, [], _∷_, _++_, map}
 use Prim.Native.Nat.{ℕ, _+_, _*_, _/_, _%_, _≤_, _<_}
@@ -8,14 +9,15 @@ use native.Mathlib.Omega.{arith}
 use lib.Dec.{eqb}
 use lib.ListN.{length, getD, set, length-set, length-replicate}
 use lib.Seq.{set-getD}
-use Rattle.laws.specs.Places.{All}
+use Rattle.laws.specs.Local.{All}
 use Rattle.laws.specs.Loop.{upTo}
-use Rattle.laws.specs.Raster.{Marked, Ready}
-use Rattle.laws.specs.Grid.{Dep}
+use Rattle.laws.specs.Raster.{Marked}
+use Rattle.laws.specs.Order.{Ready, Dep}
 use Rattle.laws.proofs.Cond.{cond-both}
 use Rattle.laws.proofs.Places.{all-map}
 use Rattle.visits.specs.Visit.{At, State, Call, fresh, answer, visit, run}
-use Rattle.visits.specs.AnyOrder.{Bits, AsksPlace, Passes, Demand3}
+use Rattle.visits.specs.Instance.{AsksPlace, Passes}
+use Rattle.visits.specs.Beyond.{Bits, Beyond3}
 use Rattle.visits.specs.Rounds.{Able, markAll, Allowed, Full, Schedule, over, next, placeOf, asRequests, roundsFor}
 use Rattle.visits.proofs.Neighbours.{wide, ready→free}
 use Rattle.visits.proofs.Marks.{visited-stays, set-bits, fresh-bits}
@@ -103,11 +105,11 @@ module _
       ∙ schedule-run c (run (visit W step early) (map (placeOf W) is) s) (k .0) (k .1 ∙ ap (markAll is) e)
 
   -- the whole picture in W + 2 * (H - 1) rounds, H where W is 1
-  pub rounds-filter : Demand3 W H step early (visit W step early) → {rounds : List (List ℕ)} {end : List ℕ} → Schedule (Full W H) (fresh W H) rounds end
+  pub rounds-filter : Beyond3 W H step early (visit W step early) → {rounds : List (List ℕ)} {end : List ℕ} → Schedule (Full W H) (fresh W H) rounds end
       → roundsFor W H ≤ length rounds → (start : S) → Valid start
       → run (visit W step early) (asRequests W rounds) (start, fresh W H) .0 ≡ upTo (W * H) step start
-  rounds-filter D {rounds = rounds} c l start v =
-      D start (asRequests W rounds) .whole (rw (schedule-run (full→allowed W H c) (start, fresh W H) good refl) (rounds-proved W H .finished c l))
+  rounds-filter E {rounds = rounds} c l start v =
+      E start (asRequests W rounds) .whole (rw (schedule-run (full→allowed W H c) (start, fresh W H) good refl) (rounds-proved W H .finished c l))
     where
       good : Good (start, fresh W H)
       good = record { valid = v; size = length-replicate (W * H) 0; bits = fresh-bits (W * H) }

@@ -1,5 +1,5 @@
--- What demand 3 cannot tell: in a run from nothing visited no macroblock is marked and waits, so whether 13 or 14 is asked first is never seen there. The
--- promise of one visit tells (Refused.antt). Assumes nothing.
+-- What demand 3 cannot tell: in a run from nothing visited no macroblock is marked and waits, so whether 13
+-- or 14 is asked first is never seen there. The promise of one visit tells (Refused.antt). Assumes nothing.
 use mathlib.Core.Path.{_≡_, refl}
 use mathlib.Core.Bool.{Bool, true, false, cond}
 use mathlib.Core.List.{List}
@@ -9,7 +9,7 @@ use borrow.Author.Tests.{eq-eqb, ne-eqb}
 use lib.Dec.{T}
 use Rattle.laws.proofs.Grid.{index-lt}
 use Rattle.visits.specs.Visit.{At, State, fresh, marked, waiting, answer, visit, run}
-use Rattle.visits.specs.AnyOrder.{AsksPlace, Commutes}
+use Rattle.visits.specs.Instance.{AsksPlace, Commutes}
 use Rattle.visits.proofs.Neighbours.{marked→visited, waiting→waits, ready→free}
 use Rattle.visits.proofs.AnyOrder.{Inv, inv-start, inv-run}
 use Rattle.visits.proofs.Refused.{readyFirst}

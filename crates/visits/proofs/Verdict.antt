@@ -5,7 +5,8 @@ use Prim.Native.Nat.{ℕ}
 use lib.Dec.{eqb, eqb→eq, T-not}
 use Rattle.laws.proofs.Cond.{cond-cases}
 use Rattle.visits.specs.Visit.{At, State, marked, waiting, answer}
-use Rattle.visits.specs.AnyOrder.{AsksPlace, Visited, Unvisited, Waits}
+use Rattle.visits.specs.AnyOrder.{Visited, Unvisited, Waits}
+use Rattle.visits.specs.Instance.{AsksPlace}
 use Rattle.laws.proofs.Bools.{eq→eqb}
 use Rattle.visits.proofs.Neighbours.{waiting→waits, waits→waiting, marked→visited, unmarked→unvisited}
 

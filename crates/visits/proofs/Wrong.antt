@@ -1,4 +1,5 @@
--- Wrong visits, with the real filter: those of Refused.antt that need a picture, each on one on which the filter does something. Assumes nothing.
+-- Wrong visits, with the real filter: those of Refused.antt that need a picture, each on one on which the
+-- filter does something. Assumes nothing.
 use mathlib.Core.Path.{_≡_, refl, ap}
 use mathlib.Core.Logic.{_≢_}
 use mathlib.Core.List.{List, [], _∷_, _++_}
@@ -37,7 +38,7 @@ pub always-refuses : (d : Given) → Sound d → 0 < d .size .w → 0 < d .size 
     → ((t : State Planes) (r : At) → number t r ≢ 0) → Demand3 (d .size .w) (d .size .h) (stepOf (heldOf d)) (earlyOf d) (λ t r. (number t r, t)) → ⊥
 always-refuses d v w h start f =
     refused.always-refuses (stepOf (heldOf d)) (earlyOf d) start (d .size .w) (d .size .h) w h
-    (passes-valid d v (start, fresh (d .size .w) (d .size .h)) f (length-replicate (d .size .w * d .size .h) 0) (fresh-bits (d .size .w * d .size .h)) 0 0 w h)
+    (passes-valid d v (start, fresh (d .size .w) (d .size .h)) f (length-replicate (d .size .w * d .size .h) 0) (fresh-bits (d .size .w * d .size .h)))
 
 -- ---- two macroblocks side by side, the upper row of Fault.antt
 abbrev pub pairGiven : Given
@@ -105,7 +106,8 @@ planes-untouched =
     refused.planes-untouched (stepOf (heldOf oneGiven)) (earlyOf oneGiven) one
     (passes-valid oneGiven one-sound (one, 0 ∷ []) one-fit refl (at-most 1 (0 ∷ []) tt) 0 0 (omega arith) (omega arith)) one-moves
 
--- ---- readiness without the upper right neighbour, on the picture of Fault.antt: already the answer to its second visit is wrong
+-- ---- readiness without the upper right neighbour, on the picture of Fault.antt: already the answer to its
+-- second visit is wrong
 pub without-upper-right : (u v : Plane) → length u ≡ 256 → length v ≡ 256
     → Demand3 2 2 (stepOf (heldOf faultGiven)) (earlyOf faultGiven) (oldVisit 2 (stepOf (heldOf faultGiven)) (earlyOf faultGiven)) → ⊥
 without-upper-right u v lu lv = refused.without-upper-right (fault.step u v lu lv) (earlyOf faultGiven) (fault.start u v lu lv) (fault.old-clear u v lu lv)

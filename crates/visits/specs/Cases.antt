@@ -1,17 +1,36 @@
--- P12 of the proved table, of the definitions, with a filter that does nothing and no earlier check; and the whole table, joined.
+-- Apart: no promise rests on it. P12 of the proved table, of the visit with the real filter and checks, on
+-- the picture of Fault.antt and on its left column; and the whole table, joined.
 use Prim.Native.Nat.{ℕ}
 use mathlib.Core.List.{List, [], _∷_, _++_}
+use lib.IntN.{pos}
+use lib.ListN.{replicate}
 use Rattle.laws.specs.Cases.{Case}
 use Rattle.lines.specs.Cases as lines
 use Rattle.motion.specs.Cases as motion
-use Rattle.visits.specs.Visit.{fresh, visit, answers}
+use Rattle.edges.specs.Picture.{Planes, planes}
+use Rattle.visits.specs.Checks.{Given, given}
+use Rattle.visits.specs.Fault.{band, outer, faultLuma, faultGiven}
+use Rattle.visits.specs.Promise.{visitOf, unvisited}
+use Rattle.visits.specs.Visit.{answers}
 
--- the answers of visits of (0, 0), then (0, 1), in a picture of W by H
-abbrev asked : ℕ → ℕ → List ℕ
-asked W H = answers (visit W {S = List ℕ} (λ i s. s) (λ s r. 0)) ((0, 0) ∷ (0, 1) ∷ []) ([], fresh W H)
+-- 2 by 2
+abbrev pub square : Planes
+square = planes faultLuma (replicate 256 128) (replicate 256 128)
+
+-- 1 by 2
+abbrev pub columnGiven : Given
+columnGiven =
+    given (record { w = 1; h = 2 }) (record { a = pos 0; b = pos 0; chroma = pos 0 }) (outer 0 0 ++ outer 0 1) (40 ∷ 40 ∷ []) []
+
+abbrev pub column : Planes
+column = planes (band 16 16 100 0 0 ++ band 16 16 105 0 0) (replicate 128 128) (replicate 128 128)
+
+-- the answers of visits of (0, 0), then (0, 1)
+abbrev pub asked : Given → Planes → List ℕ
+asked d p = answers (visitOf d) ((0, 0) ∷ (0, 1) ∷ []) (unvisited d p)
 
 unfoldable pub cases : List Case
-cases = record { number = 12; given = asked 2 2 ++ asked 1 2; paper = 0 ∷ 14 ∷ 0 ∷ 0 ∷ [] } ∷ []
+cases = record { number = 12; given = asked faultGiven square ++ asked columnGiven column; paper = 0 ∷ 14 ∷ 0 ∷ 0 ∷ [] } ∷ []
 
 -- document 01, "The proved table": P1 to P8, P9 to P11, P12
 abbrev pub twelve : List Case

@@ -1,6 +1,7 @@
--- The checks of a visit before 13, each as whether it applies: document 01, "Numbers a call returns". It reads strengths and flag of its macroblock, QPs of it
--- and of its left and upper neighbours, and its own, the left, the upper and the upper right mark.
-use Prim.Native.Nat.{ℕ, _+_, _-_, _*_, _<_, _≤_}
+-- The checks of a visit before 13, each as whether it applies: document 01, "Numbers a call returns". It
+-- reads strengths and flag of its macroblock, QPs of it and of its left and upper neighbours, and its own,
+-- the left, the upper and the upper right mark.
+use Prim.Native.Nat.{ℕ, _+_, _-_, _*_, _≤_}
 use mathlib.Core.Path.{_≡_}
 use mathlib.Core.Bool.{Bool, false, not, _&&_, _||_}
 use mathlib.Core.List.{List, [], _∷_, _++_}
@@ -28,11 +29,6 @@ given z o s q t = record { size = z; offsets = o; strengths = s; qps = q; t8s = 
 -- .. as the filter takes it
 abbrev pub heldOf : Given → Held
 heldOf d = held (d .size .w) (d .strengths) (d .qps) (d .t8s) (d .offsets)
-
--- (x, y) is a macroblock of a picture w wide, and one of the first n
-pub record Inside (w x y n : ℕ) : Type 0 where
-  pub column : x < w
-  pub index : y * w + x < n
 
 -- where there is a neighbour, d places before i, its entry is above `top`
 abbrev pub overBefore : Bool → List ℕ → ℕ → ℕ → ℕ → Bool
@@ -87,7 +83,8 @@ checks d ly lu lv ms r = numbers d ly lu lv (length ms) r ++ values (d .size .w)
 unfoldable pub earlyOf : Given → State Planes → At → ℕ
 earlyOf d s r = refusal (checks d (length (s .0 .y)) (length (s .0 .u)) (length (s .0 .v)) (s .1) r)
 
--- ---- "the same valid size, buffer lengths, strengths, QPs, 8x8 flags and offsets": valid wherever a visit may read
+-- ---- "the same valid size, buffer lengths, strengths, QPs, 8x8 flags and offsets": valid wherever a visit
+-- may read
 pub record Sound (d : Given) : Type 0 where
   pub sides : badSize (d .size) ≡ false
   pub lengths : badLent (d .size .w * d .size .h) (length (d .strengths)) (length (d .qps)) (length (d .t8s)) ≡ false

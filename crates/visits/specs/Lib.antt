@@ -1,8 +1,11 @@
 pub mod AnyOrder
+pub mod Beyond
 pub mod Calls
 pub mod Cases
 pub mod Checks
 pub mod Fault
+pub mod Inner
+pub mod Instance
 pub mod Old
 pub mod Promise
 pub mod Rounds

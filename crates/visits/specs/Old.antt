@@ -1,4 +1,5 @@
--- The rule of the old release: it waited for the left and the upper neighbour, never for the upper right one.
+-- Apart: no promise rests on it. The rule of the old release: it waited for the left and the upper neighbour,
+-- never for the upper right one.
 use Prim.Native.Nat.{ℕ}
 use mathlib.Core.Bool.{Bool, cond, _||_}
 use mathlib.Core.List.{List, [], _∷_}
@@ -14,7 +15,8 @@ oldAnswer W early s r = orElse (early s r) (cond (marked W (s .1) (r .0) (r .1))
 unfoldable pub oldVisit : ℕ → {S : Type 0} → (ℕ → S → S) → (State S → At → ℕ) → Call S
 oldVisit W step early s r = (oldAnswer W early s r, serve W step (oldAnswer W early s r) s r)
 
--- an order that it allows on a picture of 2 by 2: the lower left macroblock before the upper right one, whose left edge shares samples with its top edge
+-- an order that it allows on a picture of 2 by 2: the lower left macroblock before the upper right one, whose
+-- left edge shares samples with its top edge
 abbrev pub oldOrder : List At
 oldOrder = (0, 0) ∷ (0, 1) ∷ (1, 0) ∷ (1, 1) ∷ []
 

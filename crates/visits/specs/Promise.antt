@@ -1,13 +1,13 @@
--- What the calls of this crate promise: a visit, and requests replayed one after the other.
+-- What the calls of this crate promise: a visit, and requests replayed one after the other. Document 01,
+-- "Numbers a call returns" and "What the promises have to say"; demands 1 to 3.
 use Prim.Native.Nat.{ℕ}
 use mathlib.Core.Path.{_≡_}
 use mathlib.Core.Bool.{Bool, cond, not, _||_}
-use mathlib.Core.List.{List}
+use mathlib.Core.List.{List, zip}
 use lib.Dec.{eqb}
 use lib.ListN.{length}
 use Rattle.edges.specs.Picture.{Planes, stepOf}
 use Rattle.visits.specs.Visit.{At, State, Call, Outcome, fresh, visit, run, answers}
-use Rattle.visits.specs.Calls.{requests}
 use Rattle.visits.specs.Checks.{Given, heldOf, earlyOf}
 
 -- the visit of the theory, with the filter of demand 2 and the checks of document 01
@@ -23,13 +23,11 @@ abbrev pub VisitOutcome : Given → State Planes → At → ℕ → State Planes
 VisitOutcome d = Outcome (d .size .w) (stepOf (heldOf d)) (earlyOf d)
 
 -- ---- replay: columns xs and rows ys, and room `out` for the answers
+abbrev pub requests : List ℕ → List ℕ → List At
+requests xs ys = zip xs ys
+
 abbrev pub uneven : List ℕ → List ℕ → List ℕ → Bool
 uneven xs ys out = not (eqb (length ys) (length xs)) || not (eqb (length out) (length xs))
-
--- each visit made in turn, and its answer in its place
-pub record Replayed (d : Given) (xs ys : List ℕ) (s : State Planes) (t : State Planes) (out : List ℕ) : Type 0 where
-  pub leaves : t ≡ run (visitOf d) (requests xs ys) s
-  pub writes : out ≡ answers (visitOf d) (requests xs ys) s
 
 -- lists of different lengths are refused with 4 and change no byte
 pub record ReplayOutcome (d : Given) (xs ys : List ℕ) (s : State Planes) (out : List ℕ) (n : ℕ) (t : State Planes) (out′ : List ℕ) : Type 0 where

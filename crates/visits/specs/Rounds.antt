@@ -1,4 +1,5 @@
--- Beyond demand 3: visits made in rounds. A round makes only visits that were ready at its start, so those of one round may be made at the same time.
+-- Apart: demand 3 does not ask for it. Visits made in rounds. A round makes only visits that were ready at
+-- its start, so within a round their order does not matter.
 use Prim.Native.Nat.{ℕ, _+_, _-_, _*_, _/_, _%_, _≤_, _<_}
 use mathlib.Core.Path.{_≡_}
 use mathlib.Core.Logic.{_↔_}
@@ -6,9 +7,9 @@ use mathlib.Core.Bool.{cond}
 use mathlib.Core.List.{List, [], _∷_, _++_, map}
 use lib.Dec.{eqb}
 use lib.ListN.{length, set}
-use Rattle.laws.specs.Places.{All, Among}
-use Rattle.laws.specs.Raster.{Marked, Ready}
-use Rattle.laws.specs.Grid.{Dep}
+use Rattle.laws.specs.Local.{All, Among}
+use Rattle.laws.specs.Raster.{Marked}
+use Rattle.laws.specs.Order.{Ready, Dep}
 use Rattle.visits.specs.Visit.{At, fresh}
 use Rattle.visits.specs.AnyOrder.{Visited, AllVisited}
 
@@ -41,7 +42,8 @@ abbrev pub asRequests : ℕ → List (List ℕ) → List At
 asRequests W [] = []
 asRequests W (is ∷ rounds) = map (placeOf W) is ++ asRequests W rounds
 
--- the round of (x, y), counted from 0: a row follows the one above by two, since it waits for the upper right; by one where there is no upper right
+-- the round of (x, y), counted from 0: a row follows the one above by two, since it waits for the upper
+-- right; by one where there is no upper right
 unfoldable pub earliest : ℕ → ℕ → ℕ → ℕ
 earliest W x y = cond (eqb W 1) y (x + 2 * y)
 

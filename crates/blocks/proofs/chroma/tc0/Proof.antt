@@ -1,6 +1,6 @@
 -- `tc0`: each return is the case of its test. Assumes nothing.
 use borrow.Author.Tests.{eq-eqb, ne-eqb}
-use Rattle.lines.specs.Thresholds.{tcBy}
+use Rattle.lines.specs.Inner.{tcBy}
 use Rattle.blocks.proofs.chroma.tc0.Statement.{statement}
 use Rattle.blocks.proofs.chroma.tc0.Tie as tie
 

@@ -7,7 +7,8 @@ use native.Mathlib.Nat.{mul-one}
 use lib.IntN.{ℤ}
 use mir.Facts.{toZ-ofZ}
 use Rattle.lines.specs.Tables.{alphaAt, betaAt, tc0At}
-use Rattle.lines.specs.Thresholds.{indexOf, alphaOf, betaOf, tc0Of, thresholdsOf}
+use Rattle.lines.specs.Thresholds.{indexOf, alphaOf, betaOf, tc0Of}
+use Rattle.lines.specs.Inner.{thresholdsOf}
 use Rattle.lines.specs.declared.limits.Limits.the-variants.{Filtered, Nothing}
 use Rattle.lines.proofs.limits.thresholds.Statement.{statement}
 use Rattle.lines.proofs.limits.thresholds.Tie as tie

@@ -5,7 +5,7 @@ use mathlib.Core.Bool.{not, _&&_, _||_}
 use native.Mathlib.Omega.{arith}
 use Rattle.motion.specs.Grids.{Grids, grids}
 use Rattle.motion.proofs.Laws.{hold-less}
-use Rattle.strengths.specs.Kinds.{first}
+use Rattle.strengths.specs.ByKind.{first}
 use Rattle.strengths.proofs.Agreed.{uniform-is, flat-is}
 use Rattle.strengths.proofs.calls.bad_flags.Statement.{statement}
 use Rattle.strengths.proofs.calls.bad_flags.Tie as tie

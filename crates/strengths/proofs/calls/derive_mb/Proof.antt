@@ -10,8 +10,8 @@ use Rattle.laws.specs.Refusal.{refusal}
 use Rattle.laws.proofs.Grid.{index-lt}
 use Rattle.motion.specs.Grids.{Grids, grids}
 use Rattle.strengths.specs.Calls.{checks}
-use Rattle.strengths.specs.Kinds.{first, isKind}
-use Rattle.strengths.specs.Flags.{kindOf}
+use Rattle.strengths.specs.Kinds.{isKind}
+use Rattle.strengths.specs.ByKind.{first, kindOf}
 use Rattle.strengths.specs.declared.kinds.MbKind.{MbKind}
 use Rattle.strengths.proofs.Outcomes.{is-good, agrees, refused, done, flags-kind}
 use Rattle.strengths.proofs.Passed.{Good, inside-of, holds, small}

@@ -4,8 +4,7 @@ use mathlib.Core.Path.{_≡_, _∙_}
 use native.Mathlib.Omega.{arith}
 use Rattle.motion.specs.Grids.{Grids, grids}
 use Rattle.motion.proofs.Laws.{hold-less}
-use Rattle.strengths.specs.Kinds.{first}
-use Rattle.strengths.specs.Flags.{kindBy}
+use Rattle.strengths.specs.ByKind.{first, kindBy}
 use Rattle.strengths.proofs.Agreed.{kind-by}
 use Rattle.strengths.proofs.calls.is_kind.Statement.{statement}
 use Rattle.strengths.proofs.calls.is_kind.Tie as tie

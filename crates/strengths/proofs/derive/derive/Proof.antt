@@ -8,7 +8,7 @@ use lib.ListN.{length, set, length-set}
 use Rattle.laws.specs.Loop.{upTo}
 use Rattle.laws.proofs.Loop.{upTo-none, upTo-more, upTo-end, loops}
 use Rattle.motion.specs.Grids.{grids}
-use Rattle.strengths.specs.Kinds.{strengthBy}
+use Rattle.strengths.specs.ByKind.{strengthBy}
 use Rattle.strengths.specs.Strength.{written}
 use Rattle.strengths.proofs.derive.derive.Statement.{statement}
 use Rattle.strengths.proofs.derive.derive.Tie as tie

@@ -7,7 +7,7 @@ use native.Mathlib.Omega.{arith}
 use lib.Dec.{eqb, ltb}
 use Rattle.motion.proofs.Laws.{hold-less}
 use Rattle.strengths.specs.Strength.{border, skipped, qBlock}
-use Rattle.strengths.specs.Kinds.{acrossBy, strengthBy}
+use Rattle.strengths.specs.ByKind.{acrossBy, strengthBy}
 use Rattle.strengths.proofs.Beside.{across-fits}
 use Rattle.strengths.proofs.derive.strength_at.Statement.{statement}
 use Rattle.strengths.proofs.derive.strength_at.Tie as tie

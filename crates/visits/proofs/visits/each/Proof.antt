@@ -5,9 +5,9 @@ use mathlib.Core.Path.{_≡_, refl, sym, _∙_}
 use native.Mathlib.Omega.{arith}
 use lib.ListN.{length, length-set}
 use Rattle.edges.specs.Picture.{planes}
-use Rattle.visits.specs.Calls.{requests, Served}
+use Rattle.visits.specs.Promise.{requests, visitOf}
+use Rattle.visits.specs.Inner.{Served}
 use Rattle.visits.specs.Checks.{given}
-use Rattle.visits.specs.Promise.{visitOf}
 use Rattle.visits.proofs.Calls.{requests-length, served-none, served-turn, served-all}
 use Rattle.visits.proofs.visits.each.Statement.{statement}
 use Rattle.visits.proofs.visits.each.Tie as tie

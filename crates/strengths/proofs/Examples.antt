@@ -1,0 +1,92 @@
+-- Worked examples: the definitions computed on the smallest pictures. Assumes nothing.
+use mathlib.Core.Path.{_≡_, refl}
+use mathlib.Core.Bool.{true, false}
+use mathlib.Core.List.{List, [], _∷_, _++_, map, replicate}
+use Prim.Native.Nat.{ℕ}
+use lib.IntN.{ℤ, pos, negsuc}
+use Rattle.laws.specs.Some.{some}
+use Rattle.motion.specs.Far.{outside}
+use Rattle.motion.specs.Grids.{Grids, grids, blkAt}
+use Rattle.motion.specs.Motion.{used, mismatched, differ, interStrength}
+use Rattle.edges.specs.Picture.{Planes, planes}
+use Rattle.edges.specs.declared.Offsets.{Offsets}
+use Rattle.edges.specs.declared.Size.{Size}
+use Rattle.strengths.specs.Blocks.{someRead}
+use Rattle.strengths.specs.Checks.{disagree}
+use Rattle.strengths.specs.Calls.{answerOf}
+use Rattle.strengths.specs.Filtering.{lent, over, rowAnswer}
+use Rattle.strengths.specs.Strength.{between, strengthAt}
+
+-- ---- one macroblock, all intra, no list 1
+abbrev pub one : Size
+one = record { w = 1; h = 1 }
+
+abbrev pub intra : Grids
+intra = grids (replicate 16 0) (replicate 16 0) (replicate 16 (negsuc 0)) (replicate 32 (pos 0)) [] []
+
+pub answered : answerOf one 0 0 intra false 32 ≡ 0
+unfolding answerOf someRead some disagree
+answered = refl
+
+-- its left and top edges, at the picture's border, have 0; those inside 3. Bytes 0 and 4: vertical edges 0
+-- and 1
+pub outer : strengthAt intra 1 false 0 0 0 ≡ 0
+unfolding strengthAt
+outer = refl
+
+pub inner : strengthAt intra 1 false 0 0 4 ≡ 3
+unfolding strengthAt between blkAt
+inner = refl
+
+-- bytes 16, 20, 24, 28: horizontal edges 0 to 3, with and without the 8x8 transform
+horizontal : (map (strengthAt intra 1 false 0 0) (16 ∷ 20 ∷ 24 ∷ 28 ∷ []) ≡ 0 ∷ 3 ∷ 3 ∷ 3 ∷ [])
+    × (map (strengthAt intra 1 true 0 0) (16 ∷ 20 ∷ 24 ∷ 28 ∷ []) ≡ 0 ∷ 0 ∷ 3 ∷ 0 ∷ [])
+unfolding strengthAt between blkAt
+horizontal = (refl, refl)
+
+-- ---- two side by side, of which the right one is asked: four rows of 4 blocks each
+abbrev rows : {A : Type 0} → List A → List A
+rows r = r ++ r ++ r ++ r
+
+-- the left one intra: 4 on the edge between them, and inside the right one, of one motion, 0
+abbrev besideIntra : Grids
+besideIntra = grids (rows (replicate 4 0 ++ replicate 4 1)) (replicate 32 0) (replicate 32 (pos 0)) (replicate 64 (pos 0)) [] []
+
+beside-intra : map (strengthAt besideIntra 2 false 1 0) (0 ∷ 3 ∷ 4 ∷ 20 ∷ []) ≡ 4 ∷ 4 ∷ 0 ∷ 0 ∷ []
+unfolding strengthAt between blkAt interStrength differ mismatched used outside
+beside-intra = refl
+
+-- both inter, the left one's vectors 4 to the right of the right one's, and coefficients in the left one's
+-- top row: 2 on the first segment of the edge between them, 1 on the others, 0 inside
+abbrev besideMoved : Grids
+besideMoved =
+    grids (replicate 32 1) (replicate 4 1 ++ replicate 28 0) (replicate 32 (pos 0))
+    (rows (pos 4 ∷ pos 0 ∷ pos 4 ∷ pos 0 ∷ pos 4 ∷ pos 0 ∷ pos 4 ∷ pos 0 ∷ replicate 8 (pos 0))) [] []
+
+beside-moved : map (strengthAt besideMoved 2 false 1 0) (0 ∷ 1 ∷ 3 ∷ 4 ∷ 20 ∷ []) ≡ 2 ∷ 1 ∷ 1 ∷ 0 ∷ 0 ∷ []
+unfolding strengthAt between blkAt interStrength differ mismatched used outside
+beside-moved = refl
+
+-- ---- the answer of a row call on one grey macroblock
+abbrev pub blank : List ℕ
+blank = replicate 32 0
+
+abbrev pub level : Offsets
+level = record { a = pos 0; b = pos 0; chroma = pos 0 }
+
+abbrev pub grey : Planes
+grey = planes (replicate 256 128) (replicate 64 128) (replicate 64 128)
+
+pub served : rowAnswer one 0 1 level grey (lent blank (30 ∷ []) []) ≡ 0
+unfolding rowAnswer over some
+served = refl
+
+-- rows 0 to 2 of one row; no luma; QP 52; strength 5, with QP 52 beside it or without: the first check that
+-- applies
+refusals : (rowAnswer one 0 2 level grey (lent blank (30 ∷ []) []) ≡ 2)
+    × (rowAnswer one 0 1 level (planes [] (grey .u) (grey .v)) (lent blank (30 ∷ []) []) ≡ 3)
+    × (rowAnswer one 0 1 level grey (lent blank (52 ∷ []) []) ≡ 8)
+    × (rowAnswer one 0 1 level grey (lent (replicate 32 5) (52 ∷ []) []) ≡ 8)
+    × (rowAnswer one 0 1 level grey (lent (replicate 32 5) (30 ∷ []) []) ≡ 9)
+unfolding rowAnswer over some
+refusals = (refl, refl, refl, refl, refl)

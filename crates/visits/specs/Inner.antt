@@ -1,0 +1,26 @@
+-- Apart: no promise to a caller of the public calls rests on it. What functions of this crate ask of the
+-- place, and what the loop of `replay` promises.
+use Prim.Native.Nat.{ℕ, _+_, _*_, _<_}
+use mathlib.Core.Path.{_≡_}
+use mathlib.Core.List.{List, _++_}
+use lib.ListN.{take, drop}
+use Rattle.edges.specs.Picture.{Planes}
+use Rattle.visits.specs.Checks.{Given}
+use Rattle.visits.specs.Promise.{visitOf, requests}
+use Rattle.visits.specs.Visit.{At, State, Call, run, answers}
+
+-- (x, y) is a macroblock of a picture w wide, and one of the first n
+pub record Inside (w x y n : ℕ) : Type 0 where
+  pub column : x < w
+  pub index : y * w + x < n
+
+-- each visit made in turn, and its answer in its place
+pub record Replayed (d : Given) (xs ys : List ℕ) (s : State Planes) (t : State Planes) (out : List ℕ) : Type 0 where
+  pub leaves : t ≡ run (visitOf d) (requests xs ys) s
+  pub writes : out ≡ answers (visitOf d) (requests xs ys) s
+
+-- k of the requests rs have been made and the answers stand in out: what is left leads from now where all led
+-- from start
+pub record Served {S : Type 0} (call : Call S) (rs : List At) (start : State S) (k : ℕ) (now : State S) (out : List ℕ) : Type 0 where
+  pub state : run call (drop k rs) now ≡ run call rs start
+  pub said : take k out ++ answers call (drop k rs) now ≡ answers call rs start

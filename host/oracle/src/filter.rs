@@ -27,7 +27,10 @@ pub struct Stored {
 }
 
 impl Stored {
+    /// Takes any lengths, as the original does, but for a part of a macroblock's 32 strengths: no type of the original
+    /// holds that, and dropping it here would hide it.
     pub fn new(width: usize, height: usize, strengths: &[u8], qps: &[u8], t8s: &[u8]) -> Self {
+        assert_eq!(strengths.len() % 32, 0, "the original is lent whole macroblocks of strengths");
         Stored {
             width,
             height,
@@ -57,6 +60,12 @@ impl Stored {
         deblock::filter_frame_rows(p.y, p.u, p.v, w, h, rows, &self.qps, o.chroma, o.a, o.b, &self.info());
     }
 
+    /// The original's second way over rows, for strengths whose maker has left 0 where the 8x8 flag skips.
+    pub fn filter_rows_pre(&self, p: Planes, rows: Range<usize>, o: Offsets) {
+        let (w, h) = (self.width, self.height);
+        deblock::filter_frame_rows_pre(p.y, p.u, p.v, w, h, rows, &self.qps, o.chroma, o.a, o.b, &self.info());
+    }
+
     fn info(&self) -> BlockInfo<'_> {
         BlockInfo {
             inter: &[],
@@ -65,7 +74,7 @@ impl Stored {
             ref_id: &[],
             mv1: &[],
             ref_id1: &[],
-            w4: self.width * 4,
+            w4: self.width.wrapping_mul(4), // a panic must be the original's own
             t8x8: &self.t8s,
             bs: &self.strengths,
             poc0: &[],

@@ -1,8 +1,8 @@
 //! The Rust original of the filter, unchanged and scalar, behind functions on plain slices.
 //!
 //! The first part is the thinnest shim in which its two files compile; nothing in it can change a result. The second
-//! part puts document 01's layouts into the original's types and back. Inputs must lie in document 01's domain: the
-//! original checks nothing and may panic outside it.
+//! part puts document 01's layouts into the original's types and back. The original has no refusals: outside document
+//! 01's domain it computes something or panics, and `judge differences` shows which.
 
 extern crate alloc;
 

@@ -2,7 +2,7 @@
 
 use crate::probed::{self, BlockInfo, MbBs, MbKind};
 
-/// The six 4x4 grids in document 01's layouts; the list 1 grids are both empty or both full.
+/// The six 4x4 grids in document 01's layouts.
 #[derive(Clone, Copy)]
 pub struct Grids<'a> {
     pub inter: &'a [u8],
@@ -27,8 +27,13 @@ pub struct Blocks {
 }
 
 impl Blocks {
+    /// Takes any lengths, as the original does, but for half a vector: no type of the original holds that, and dropping
+    /// it here would hide it.
     pub fn new(width: usize, g: Grids) -> Self {
-        let pairs = |mv: &[i16]| mv.chunks_exact(2).map(|v| (v[0], v[1])).collect();
+        let pairs = |mv: &[i16]| {
+            assert_eq!(mv.len() % 2, 0, "the original is lent whole vectors");
+            mv.chunks_exact(2).map(|v| (v[0], v[1])).collect()
+        };
         Blocks {
             width,
             inter: g.inter.iter().map(|&b| b != 0).collect(),
@@ -39,6 +44,11 @@ impl Blocks {
             mv1: pairs(g.mv1),
             pictures: (0..128).collect(),
         }
+    }
+
+    /// The same without lists: the original then takes a reference as a picture's number, -1 too.
+    pub fn without_lists(self) -> Self {
+        Blocks { pictures: Vec::new(), ..self }
     }
 
     /// Strengths by kind: 0 intra, 1 skip, 2 inter uniform, 3 inter.
@@ -65,7 +75,7 @@ impl Blocks {
             ref_id: &self.ref0,
             mv1: &self.mv1,
             ref_id1: &self.ref1,
-            w4: self.width * 4,
+            w4: self.width.wrapping_mul(4), // a panic must be the original's own
             t8x8: &[],
             bs: &[],
             poc0: &self.pictures,

@@ -1,6 +1,9 @@
 //! Compares the proved archive with the Rust original, every answer and every lent byte.
 
 mod arrivals;
+mod differences;
+mod differences_refused;
+mod differences_stated;
 mod expect;
 mod fault;
 mod fence;
@@ -32,10 +35,13 @@ const HELP: &str = "judge: compares the proved archive with the Rust original, e
   judge long SECONDS [SEED]  all small cases, then rounds until the time is over
   judge round SEED           one round again, to replay a mismatch
   judge mutants              runs wrong filters through the same comparison: all must be caught
+  judge differences          prints the tables of docs/DIFFERENCES.md, having run each row: what the original does
+                             where the archive refuses, and the other differences
   judge arrivals             prints what crates/arrivals must print
   judge record               writes the original's answers to 120 small pictures, for crates/recordings
 
-Exit status 0: all equal. 1: a mismatch, printed with its seed and the smallest case found. 2: wrong arguments.";
+Exit status 0: all equal. 1: a mismatch, printed with its seed and the smallest case found, or a difference that is
+not as its row says. 2: wrong arguments.";
 
 const ROUNDS: u64 = 80;
 
@@ -51,6 +57,7 @@ fn main() -> ExitCode {
         }
         ["round", seed] => number(seed).and_then(replay),
         ["mutants"] => Some(mistakes::run()),
+        ["differences"] => Some(differences::run()),
         ["arrivals"] => Some(arrivals::run(&mut std::io::stdout().lock()).is_ok()),
         ["record"] => Some(record::run(&mut std::io::stdout().lock())),
         ["--help"] | ["-h"] => {

@@ -1,0 +1,277 @@
+//! The differences that are no refusals, from the original or from the standard, each with what can be run of it.
+
+use crate::differences::{edge, inter, intra, original, picture, strengths};
+use crate::request::{Call, Request};
+use crate::subject::{Archive, Subject};
+use oracle::{Blocks, Grids, Offsets, Planes, Stored};
+
+/// A row, and whether what it says of the archive and of the original is so. What it says of the standard, of the
+/// original's accelerated build and of the decoder around it cannot be run here.
+pub struct Stated {
+    pub what: &'static str,
+    pub input: &'static str,
+    pub here: &'static str,
+    pub elsewhere: &'static str,
+    pub holds: fn(&Archive) -> bool,
+}
+
+pub const STATED: &[Stated] = &[
+    Stated {
+        what: "strength 4 on an inner edge",
+        input: "a luma line 60 60 60 60 \\| 67 67 67 67 at index 30, strength 4, on any edge",
+        here: "60 61 62 63 \\| 64 65 66 67, as the Rust",
+        elsewhere: "the standard never yields strength 4 there",
+        holds: strong_inside,
+    },
+    Stated {
+        what: "odd filter offsets",
+        input: "QP 15, offsets A and B 1",
+        here: "index 16: alpha 4, beta 2, as the Rust",
+        elsewhere: "the standard's offsets are even",
+        holds: odd_offsets,
+    },
+    Stated {
+        what: "one chroma offset for U and V",
+        input: "an inner edge at QP 30, `chroma_qp_index_offset` 0 and `second_chroma_qp_index_offset` 1",
+        here: "QPC 29 for both, as the Rust",
+        elsewhere: "the standard has 30 for V (High profile)",
+        holds: one_chroma_offset,
+    },
+    Stated {
+        what: "one pair of offsets A, B for a picture",
+        input: "two macroblocks of QP 30, the second of a slice with FilterOffsetA 2",
+        here: "index 30 on every edge, as the Rust",
+        elsewhere: "the standard has 32 on the second one's edges",
+        holds: one_pair_of_offsets,
+    },
+    Stated {
+        what: "slices are not told apart",
+        input: "two macroblocks of two slices, the second with `disable_deblocking_filter_idc` 1 or 2",
+        here: "the edge between them is filtered, as the Rust; a caller who stores strength 0 there gets what the \
+               standard does",
+        elsewhere: "the standard leaves it",
+        holds: slices,
+    },
+    Stated {
+        what: "coefficients under an 8x8 transform",
+        input: "a macroblock with the 8x8 flag whose block 0 has a count and blocks 1, 4, 5 have none",
+        here: "each 4x4 block's own count, so all strengths are 0, as the Rust",
+        elsewhere: "the standard asks whether the 8x8 block has coefficients: 2 on the first half of both edges 2; a \
+                    caller who spreads its count over the four gets that",
+        holds: counts_under_8x8,
+    },
+    Stated {
+        what: "a kind takes no 8x8 flag",
+        input: "kind Intra for a lone intra macroblock whose 8x8 flag is set",
+        here: "3 on edges 1 and 3, as the Rust's `derive_mb_kind`; no sample shows it, since luma skips these edges \
+               by the 8x8 flag that filtering is lent, and chroma does not read them",
+        elsewhere: "the standard has no transform edge there; our calls that take the 8x8 flag leave 0",
+        holds: kinds_under_8x8,
+    },
+    Stated {
+        what: "kind Inter for an intra macroblock",
+        input: "a lone macroblock whose 16 inter bytes are 0",
+        here: "refused with 12",
+        elsewhere: "the Rust answers the strengths of an intra macroblock: 0 on the outer and 3 on the inner edges",
+        holds: inter_for_intra,
+    },
+    Stated {
+        what: "a luma edge with strengths 4 and others mixed",
+        input: "segments 4, 3, 3, 3",
+        here: "the first is filtered strongly, as the scalar Rust",
+        elsewhere: "the Rust's accelerated build hands on -1 for it",
+        holds: mixed_edge,
+    },
+    Stated {
+        what: "`filter_frame_rows_pre` does not look at the 8x8 flag",
+        input: "one macroblock with the 8x8 flag and strength 3 on vertical edge 1",
+        here: "the edge is skipped, as by the Rust's `filter_frame` and `filter_frame_rows`",
+        elsewhere: "the Rust's `filter_frame_rows_pre` filters it; without the flag both give the same",
+        holds: pre_ignores_the_flag,
+    },
+    Stated {
+        what: "`NO_REF`",
+        input: "a lone inter macroblock with references -1, vector (4, 4) in block 0 and (0, 0) elsewhere",
+        here: "-1 is no reference: all strengths are 0",
+        elsewhere: "the Rust maps references through `poc0` and `poc1`; runs against it pass identity lists, so that \
+                    -1 becomes `NO_REF` (`i32::MIN`), and it answers the same; without lists it takes -1 as a \
+                    picture, and 1 stands between block 0 and its neighbours",
+        holds: no_ref,
+    },
+    Stated {
+        what: "sizes",
+        input: "257 by 1",
+        here: "refused with 1: sides are 1 to 256, their product at most 36,864",
+        elsewhere: "the Rust has no bounds, and filters it",
+        holds: sizes,
+    },
+];
+
+/// What the call leaves, if the archive takes it and the original leaves the same.
+fn both(archive: &Archive, q: &Request) -> Option<Request> {
+    let mut after = q.clone();
+    let number = archive.call(&mut after);
+    let seen = original(q);
+    let same = match seen.own {
+        Some(own) => own[..] == after.strengths[32 * q.at()..][..32],
+        None => seen.after == after,
+    };
+    (number == 0 && seen.ended && same).then_some(after)
+}
+
+/// The 32 strengths of the request's macroblock, if archive and original agree on them.
+fn own(archive: &Archive, q: &Request) -> Option<[u8; 32]> {
+    both(archive, q)?.strengths[32 * q.at()..][..32].try_into().ok()
+}
+
+/// A lone macroblock at QP 30 with these strengths on luma edge `e` alone, and in each plane `p` on one side of the
+/// edge and `q` on the other.
+fn step(e: usize, strength: u8, (p, q): (u8, u8)) -> Request {
+    let plane = |side: usize, at: usize| -> Vec<u8> {
+        let across = |i: usize| if e < 4 { i % side } else { i / side };
+        (0..side * side).map(|i| if across(i) < at { p } else { q }).collect()
+    };
+    let mut r = picture(1, 1);
+    r.strengths = edge(e, strength).to_vec().into();
+    r.luma = plane(16, 4 * (e % 4)).into();
+    r.u = plane(8, 2 * (e % 4)).into();
+    r.v = r.u.clone();
+    r
+}
+
+fn strong_inside(archive: &Archive) -> bool {
+    [1, 2, 3, 5, 6, 7].into_iter().all(|e| {
+        let Some(after) = both(archive, &step(e, 4, (60, 67))) else { return false };
+        let (from, stride) = if e < 4 { (4 * e - 4, 1) } else { (16 * (4 * (e - 4) - 4), 16) };
+        let line: Vec<u8> = (0..8).map(|i| after.luma[from + stride * i]).collect();
+        line == [60, 61, 62, 63, 64, 65, 66, 67]
+    })
+}
+
+/// Alpha 4 and beta 2: steps of 3 across the edge and of 1 beside it are filtered, steps of 4 and of 2 are not; index
+/// 15 filters nothing.
+fn odd_offsets(archive: &Archive) -> bool {
+    let filters = |across: u8, beside: u8, offset: i32| {
+        let mut q = step(2, 4, (60, 60 + across));
+        (0..16).for_each(|row| q.luma[16 * row + 6] = 60 + beside);
+        (q.qps[0], q.offsets) = (15, [offset, offset, 0]);
+        both(archive, &q).map(|after| after.luma != q.luma)
+    };
+    let seen = [filters(3, 0, 1), filters(4, 0, 1), filters(3, 1, 1), filters(3, 2, 1), filters(3, 0, 0)];
+    seen == [Some(true), Some(false), Some(true), Some(false), Some(false)]
+}
+
+/// Alpha is 22 at index 29 and 25 at index 30: a step of 22 is filtered in U and V at chroma offset 1, in neither at 0.
+fn one_chroma_offset(archive: &Archive) -> bool {
+    let filters = |across: u8, chroma: i32| {
+        let mut q = step(2, 1, (60, 60 + across));
+        q.offsets[2] = chroma;
+        both(archive, &q).map(|after| [after.u != q.u, after.v != q.v])
+    };
+    [filters(21, 0), filters(22, 0), filters(22, 1)] == [Some([true; 2]), Some([false; 2]), Some([true; 2])]
+}
+
+/// Alpha is 25 at index 30 and 32 at index 32: a step of 25 on each edge of two macroblocks is filtered everywhere or
+/// nowhere, as the one pair of offsets says.
+fn one_pair_of_offsets(archive: &Archive) -> bool {
+    let edges = |across: u8, a: i32| {
+        let mut q = picture(2, 1);
+        q.luma.iter_mut().enumerate().for_each(|(i, s)| *s = 60 + across * (i / 4 % 2) as u8);
+        (q.strengths, q.offsets[0]) = (vec![1; 64].into(), a);
+        let after = both(archive, &q)?;
+        Some((1..8).map(|e| after.luma[4 * e] != q.luma[4 * e]).collect::<Vec<bool>>())
+    };
+    [edges(24, 0), edges(25, 0), edges(25, 2)] == [true, false, true].map(|all| Some(vec![all; 7]))
+}
+
+fn slices(archive: &Archive) -> bool {
+    let changes = |strength: u8| {
+        let mut q = picture(2, 1);
+        q.strengths = [[0; 32], edge(0, strength)].concat().into();
+        both(archive, &q).map(|after| after.luma != q.luma && after.u != q.u && after.v != q.v)
+    };
+    [changes(3), changes(4), changes(0)] == [Some(true), Some(true), Some(false)]
+}
+
+fn counts_under_8x8(archive: &Archive) -> bool {
+    let spread = |blocks: &[usize]| {
+        let mut q = inter(Call::Flagless, 1, 1);
+        q.t8 = 1;
+        blocks.iter().for_each(|&i| q.nnz[i] = 1);
+        own(archive, &q)
+    };
+    let halves = std::array::from_fn(|i| if [8, 9, 24, 25].contains(&i) { 2 } else { 0 });
+    spread(&[0]) == Some([0; 32]) && spread(&[0, 1, 4, 5]) == Some(halves)
+}
+
+fn kinds_under_8x8(archive: &Archive) -> bool {
+    let calls = [Call::Kind, Call::Flags, Call::Flagless].map(|call| {
+        let mut q = intra(call, 1, 1);
+        q.t8 = 1;
+        own(archive, &q)
+    });
+    let edges_2 = std::array::from_fn(|i| if i / 4 % 4 == 2 { 3 } else { 0 });
+    let filtered = |strengths: [u8; 32], t8: u8| {
+        let mut q = picture(1, 1);
+        (q.strengths, q.t8s) = (strengths.to_vec().into(), vec![t8].into());
+        both(archive, &q).map(|after| (after.luma.to_vec(), after.u.to_vec(), after.v.to_vec()))
+    };
+    let kind = strengths(0, 3);
+    calls == [Some(kind), Some(edges_2), Some(edges_2)]
+        && filtered(kind, 1).is_some()
+        && filtered(kind, 1) == filtered(edges_2, 1)
+        && filtered(kind, 0) != filtered(edges_2, 0)
+}
+
+fn inter_for_intra(archive: &Archive) -> bool {
+    let mut q = intra(Call::Kind, 1, 1);
+    q.kind = 3;
+    let mut after = q.clone();
+    archive.call(&mut after) == 12 && after == q && original(&q).own == Some(strengths(0, 3))
+}
+
+/// Each segment is as on an edge of its strength alone.
+fn mixed_edge(archive: &Archive) -> bool {
+    let luma = |own: [u8; 4]| {
+        let mut q = picture(1, 1);
+        q.strengths[8..12].copy_from_slice(&own);
+        both(archive, &q).map(|after| after.luma.to_vec())
+    };
+    let (Some(mixed), Some(fours), Some(threes)) = (luma([4, 3, 3, 3]), luma([4; 4]), luma([3; 4])) else {
+        return false;
+    };
+    mixed[..64] == fours[..64] && fours[..64] != threes[..64] && mixed[64..] == threes[64..]
+}
+
+fn pre_ignores_the_flag(archive: &Archive) -> bool {
+    let ways = |t8: u8| {
+        let mut q = picture(1, 1);
+        (q.strengths, q.t8s) = (edge(1, 3).to_vec().into(), vec![t8].into());
+        let mut pre = q.clone();
+        let stored = Stored::new(1, 1, &q.strengths, &q.qps, &q.t8s);
+        let planes = Planes { y: &mut pre.luma, u: &mut pre.u, v: &mut pre.v };
+        stored.filter_rows_pre(planes, 0..1, Offsets { a: 0, b: 0, chroma: 0 });
+        let plain = both(archive, &q)?;
+        (q.call, q.last) = (Call::Rows, 1);
+        let rows = both(archive, &q)?;
+        Some((plain.luma != q.luma, pre.luma != q.luma, rows.luma == plain.luma, pre.luma == plain.luma))
+    };
+    ways(1) == Some((false, true, true, false)) && ways(0) == Some((true, true, true, true))
+}
+
+fn no_ref(archive: &Archive) -> bool {
+    let mut q = inter(Call::Flagless, 1, 1);
+    q.ref0.fill(-1);
+    q.mv0[..2].fill(4);
+    let grids = Grids { inter: &q.inter, nnz: &q.nnz, ref0: &q.ref0, mv0: &q.mv0, ref1: &[], mv1: &[] };
+    let unlisted = Blocks::new(1, grids).without_lists().flagless(0, 0, false);
+    let around = std::array::from_fn(|i| u8::from(i == 4 || i == 20));
+    own(archive, &q) == Some([0; 32]) && unlisted == around
+}
+
+fn sizes(archive: &Archive) -> bool {
+    let q = picture(257, 1);
+    let mut after = q.clone();
+    let seen = original(&q);
+    archive.call(&mut after) == 1 && after == q && seen.ended && !seen.luma_stays()
+}

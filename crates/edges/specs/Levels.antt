@@ -6,11 +6,9 @@ use Rattle.lines.specs.Thresholds.{average, chromaQp}
 use Rattle.lines.specs.Inner.{thresholdsOf}
 use Rattle.lines.specs.declared.limits.Limits.{Limits}
 use Rattle.lines.specs.declared.limits.Limits.the-variants.{Filtered, Nothing}
-use Rattle.blocks.specs.Lines.{lumaWith, chromaWith}
 use Rattle.blocks.specs.declared.chroma.Both.{Both}
 use Rattle.blocks.specs.declared.lanes.Four.{Four}
 use Rattle.blocks.specs.declared.lanes.Thresholds.{Thresholds}
-use Rattle.edges.specs.Edge.{LumaRule, ChromaRule}
 use Rattle.edges.specs.declared.levels.Three.{Three}
 use Rattle.edges.specs.declared.levels.Way.{Way}
 use Rattle.edges.specs.declared.levels.Levels.{Levels}
@@ -25,22 +23,16 @@ abbrev pub numbersOf : Limits → Thresholds
 numbersOf (Filtered alpha beta tc1 tc2 tc3) = record { alpha = alpha; beta = beta; tc1 = tc1; tc2 = tc2; tc3 = tc3 }
 numbersOf Nothing = record { alpha = 0; beta = 0; tc1 = 0; tc2 = 0; tc3 = 0 }
 
-abbrev pub lumaBy : Limits → LumaRule
-lumaBy m = lumaWith (numbersOf m)
-
-abbrev pub chromaBy : Limits → ChromaRule
-chromaBy m = chromaWith (numbersOf m)
-
--- .. of an edge in both chroma planes
-abbrev pub bothOf : (ℕ → ℕ) → Limits → Limits → Both
-bothOf bs cb cr = record { s = fourOf bs; u = numbersOf cb; v = numbersOf cr }
+-- .. and the thresholds, of an edge in both chroma planes
+abbrev pub bothOf : (ℕ → ℕ) → Thresholds → Thresholds → Both
+bothOf bs u v = record { s = fourOf bs; u = u; v = v }
 
 -- of the left, the top and the inner edges, by the macroblock's QP and those beside and above it
 abbrev pub threeOf : ℤ → ℤ → ℤ → ℤ → ℤ → Three
 threeOf own beside above a b = record {
-  left = thresholdsOf 1 (average beside own) a b;
-  top = thresholdsOf 1 (average above own) a b;
-  inner = thresholdsOf 1 own a b;
+  left = numbersOf (thresholdsOf 1 (average beside own) a b);
+  top = numbersOf (thresholdsOf 1 (average above own) a b);
+  inner = numbersOf (thresholdsOf 1 own a b);
 }
 
 -- of the vertical and of the horizontal edges

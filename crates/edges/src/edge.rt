@@ -4,9 +4,9 @@
 ghost use mathlib.Core.Path.{_≡_};
 ghost use Prim.Native.Nat.{_+_, _*_, _<_, _≤_};
 ghost use lib.ListN.{length};
-ghost use Rattle.blocks.specs.Lines.{Straight};
+ghost use Rattle.blocks.specs.Lines.{Straight, lumaWith, chromaWith};
 ghost use Rattle.edges.specs.Edge.{lumaEdge, chromaEdge};
-ghost use Rattle.edges.specs.Levels.{fourOf, numbersOf, bothOf, lumaBy, chromaBy};
+ghost use Rattle.edges.specs.Levels.{fourOf, bothOf};
 ghost use Rattle.edges.specs.Macroblock.{after};
 ghost use Rattle.edges.specs.Picture.{entries};
 use crate::levels::Way;
@@ -16,7 +16,6 @@ use blocks::chroma::chroma_pair;
 use blocks::lanes::Four;
 use blocks::lanes::Thresholds;
 use blocks::luma::luma_lines;
-use lines::limits::Limits;
 
 // The strengths of an edge's four segments.
 fn four(bs: &[u8], first: usize) -> Four
@@ -31,42 +30,12 @@ fn four(bs: &[u8], first: usize) -> Four
     }
 }
 
-// An alpha of 0 where no line can change.
-fn numbers(limits: Limits) -> Thresholds
-    ensures { λ r. ⌜ r ≡ numbersOf limits ⌝ }
-{
-    let Limits::Filtered {
-        alpha,
-        beta,
-        tc1,
-        tc2,
-        tc3,
-    } = limits
-    else {
-        return Thresholds {
-            alpha: 0,
-            beta: 0,
-            tc1: 0,
-            tc2: 0,
-            tc3: 0,
-        };
-    };
-    Thresholds {
-        alpha,
-        beta,
-        tc1,
-        tc2,
-        tc3,
-    }
-}
-
-fn both(bs: &[u8], first: usize, cb: Limits, cr: Limits) -> Both
+// .. with the thresholds of both chroma planes.
+fn both(bs: &[u8], first: usize, u: Thresholds, v: Thresholds) -> Both
     requires { ⌜ first + 4 ≤ length (now bs) ⌝ }
-    ensures { λ r. ⌜ r ≡ bothOf (after first (entries (now (bs .entry)))) cb cr ⌝ }
+    ensures { λ r. ⌜ r ≡ bothOf (after first (entries (now (bs .entry)))) u v ⌝ }
 {
     let s = four(bs, first);
-    let u = numbers(cb);
-    let v = numbers(cr);
     Both { s, u, v }
 }
 
@@ -78,15 +47,14 @@ pub fn luma_edge(
     step: usize,
     bs: &[u8],
     first: usize,
-    limits: Limits,
+    limits: Thresholds,
 )
     requires { ⌜ (at + 15 * along + 7 * step < length (now plane)) × (first + 4 ≤ length (now bs)) ⌝ }
     requires { ⌜ Straight 16 along step ⌝ }
-    ensures { λ _. ⌜ now (plane .exit) ≡ lumaEdge (lumaBy limits) (after first (entries (now (bs .entry)))) at along step (now (plane .entry)) ⌝ }
+    ensures { λ _. ⌜ now (plane .exit) ≡ lumaEdge (lumaWith limits) (after first (entries (now (bs .entry)))) at along step (now (plane .entry)) ⌝ }
 {
     let s = four(bs, first);
-    let l = numbers(limits);
-    luma_lines(plane, at, along, step, s, l);
+    luma_lines(plane, at, along, step, s, limits);
 }
 
 // An edge of one chroma plane.
@@ -97,14 +65,13 @@ pub fn chroma_edge(
     step: usize,
     bs: &[u8],
     first: usize,
-    limits: Limits,
+    limits: Thresholds,
 )
     requires { ⌜ (at + 7 * along + 3 * step < length (now plane)) × (first + 4 ≤ length (now bs)) ⌝ }
-    ensures { λ _. ⌜ now (plane .exit) ≡ chromaEdge (chromaBy limits) (after first (entries (now (bs .entry)))) at along step (now (plane .entry)) ⌝ }
+    ensures { λ _. ⌜ now (plane .exit) ≡ chromaEdge (chromaWith limits) (after first (entries (now (bs .entry)))) at along step (now (plane .entry)) ⌝ }
 {
     let s = four(bs, first);
-    let l = numbers(limits);
-    chroma_lines(plane, at, along, step, s, l);
+    chroma_lines(plane, at, along, step, s, limits);
 }
 
 // Both edges of a direction in both chroma planes, by the strengths of luma's edges 0 and 2.
@@ -121,8 +88,8 @@ pub fn chroma_edges(
 )
     requires { ⌜ (at + 7 * along + 7 * step < length (now u)) × (at + 7 * along + 7 * step < length (now v)) × (first + 12 ≤ length (now bs)) ⌝ }
     requires { ⌜ Straight 8 along step ⌝ }
-    ensures { λ _. ⌜ now (u .exit) ≡ chromaEdge (chromaBy (cb .inside)) (after (first + 8) (entries (now (bs .entry)))) (at + 4 * step) along step (chromaEdge (chromaBy (cb .border)) (after first (entries (now (bs .entry)))) at along step (now (u .entry))) ⌝ }
-    ensures { λ _. ⌜ now (v .exit) ≡ chromaEdge (chromaBy (cr .inside)) (after (first + 8) (entries (now (bs .entry)))) (at + 4 * step) along step (chromaEdge (chromaBy (cr .border)) (after first (entries (now (bs .entry)))) at along step (now (v .entry))) ⌝ }
+    ensures { λ _. ⌜ now (u .exit) ≡ chromaEdge (chromaWith (cb .inside)) (after (first + 8) (entries (now (bs .entry)))) (at + 4 * step) along step (chromaEdge (chromaWith (cb .border)) (after first (entries (now (bs .entry)))) at along step (now (u .entry))) ⌝ }
+    ensures { λ _. ⌜ now (v .exit) ≡ chromaEdge (chromaWith (cr .inside)) (after (first + 8) (entries (now (bs .entry)))) (at + 4 * step) along step (chromaEdge (chromaWith (cr .border)) (after first (entries (now (bs .entry)))) at along step (now (v .entry))) ⌝ }
 {
     let bu = cb.border;
     let bv = cr.border;

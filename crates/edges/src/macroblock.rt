@@ -3,9 +3,9 @@ ghost use mathlib.Core.Path.{_≡_};
 ghost use Prim.Native.Nat.{_+_, _-_, _*_, _<_, _≤_};
 ghost use mathlib.Core.Bool.{true, cond};
 ghost use lib.ListN.{length};
-ghost use Rattle.blocks.specs.Lines.{Straight};
+ghost use Rattle.blocks.specs.Lines.{Straight, lumaWith, chromaWith};
 ghost use Rattle.edges.specs.Edge.{lumaEdge};
-ghost use Rattle.edges.specs.Levels.{lumaBy, chromaBy, acrossOf, downOf};
+ghost use Rattle.edges.specs.Levels.{acrossOf, downOf};
 ghost use Rattle.edges.specs.Macroblock.{after, lumaWay, chromaWay, lumaBoth, chromaBoth};
 ghost use Rattle.edges.specs.Inner.{idleOf};
 ghost use Rattle.edges.specs.Picture.{entries};
@@ -14,7 +14,7 @@ use crate::edge::chroma_edges;
 use crate::edge::luma_edge;
 use crate::levels::Three;
 use crate::levels::Way;
-use lines::limits::Limits;
+use blocks::lanes::Thresholds;
 
 // An edge, if it is to be filtered. `q` is the place of its first line's q0.
 fn luma_edge_if(
@@ -25,11 +25,11 @@ fn luma_edge_if(
     step: usize,
     bs: &[u8],
     first: usize,
-    limits: Limits,
+    limits: Thresholds,
 )
     requires { ⌜ (on ≡ true → 4 * step ≤ q) × (q + 15 * along + 3 * step < length (now plane)) × (first + 4 ≤ length (now bs)) ⌝ }
     requires { ⌜ Straight 16 along step ⌝ }
-    ensures { λ _. ⌜ now (plane .exit) ≡ cond on (lumaEdge (lumaBy limits) (after first (entries (now (bs .entry)))) (q - 4 * step) along step (now (plane .entry))) (now (plane .entry)) ⌝ }
+    ensures { λ _. ⌜ now (plane .exit) ≡ cond on (lumaEdge (lumaWith limits) (after first (entries (now (bs .entry)))) (q - 4 * step) along step (now (plane .entry))) (now (plane .entry)) ⌝ }
 {
     if on {
         luma_edge(plane, q - 4 * step, along, step, bs, first, limits);
@@ -46,12 +46,12 @@ fn luma_way(
     step: usize,
     bs: &[u8],
     first: usize,
-    border: Limits,
-    inside: Limits,
+    border: Thresholds,
+    inside: Thresholds,
 )
     requires { ⌜ (near ≡ true → 4 * step ≤ origin) × (origin + 15 * along + 15 * step < length (now plane)) × (first + 16 ≤ length (now bs)) ⌝ }
     requires { ⌜ Straight 16 along step ⌝ }
-    ensures { λ _. ⌜ now (plane .exit) ≡ lumaWay (lumaBy border) (lumaBy inside) near t8 (after first (entries (now (bs .entry)))) origin along step (now (plane .entry)) ⌝ }
+    ensures { λ _. ⌜ now (plane .exit) ≡ lumaWay (lumaWith border) (lumaWith inside) near t8 (after first (entries (now (bs .entry)))) origin along step (now (plane .entry)) ⌝ }
 {
     let q1 = origin + 4 * step;
     let q2 = origin + 8 * step;
@@ -62,7 +62,7 @@ fn luma_way(
     luma_edge_if(!t8, plane, q3, along, step, bs, first + 12, inside);
 }
 
-// The limits of the vertical edges.
+// The thresholds of the vertical edges.
 fn across(m: Three) -> Way
     ensures { λ r. ⌜ r ≡ acrossOf m ⌝ }
 {
@@ -71,7 +71,7 @@ fn across(m: Three) -> Way
     Way { border, inside }
 }
 
-// The limits of the horizontal edges.
+// The thresholds of the horizontal edges.
 fn down(m: Three) -> Way
     ensures { λ r. ⌜ r ≡ downOf m ⌝ }
 {
@@ -96,8 +96,8 @@ fn chroma_way(
 )
     requires { ⌜ (near ≡ true → 2 * step ≤ origin) × (origin + 7 * along + 7 * step < length (now u)) × (origin + 7 * along + 7 * step < length (now v)) × (first + 16 ≤ length (now bs)) ⌝ }
     requires { ⌜ Straight 8 along step ⌝ }
-    ensures { λ _. ⌜ now (u .exit) ≡ chromaWay (chromaBy (cb .border)) (chromaBy (cb .inside)) near (after first (entries (now (bs .entry)))) origin along step (now (u .entry)) ⌝ }
-    ensures { λ _. ⌜ now (v .exit) ≡ chromaWay (chromaBy (cr .border)) (chromaBy (cr .inside)) near (after first (entries (now (bs .entry)))) origin along step (now (v .entry)) ⌝ }
+    ensures { λ _. ⌜ now (u .exit) ≡ chromaWay (chromaWith (cb .border)) (chromaWith (cb .inside)) near (after first (entries (now (bs .entry)))) origin along step (now (u .entry)) ⌝ }
+    ensures { λ _. ⌜ now (v .exit) ≡ chromaWay (chromaWith (cr .border)) (chromaWith (cr .inside)) near (after first (entries (now (bs .entry)))) origin along step (now (v .entry)) ⌝ }
 {
     if near {
         chroma_edges(u, v, origin - 2 * step, along, step, bs, first, cb, cr);
@@ -123,7 +123,7 @@ pub fn luma(
 )
     requires { ⌜ (left ≡ true → 4 * 1 ≤ origin) × (top ≡ true → 4 * stride ≤ origin) × (origin + 15 * stride + 15 < length (now plane)) × (first + 32 ≤ length (now bs)) ⌝ }
     requires { ⌜ 16 ≤ stride ⌝ }
-    ensures { λ _. ⌜ now (plane .exit) ≡ lumaBoth (lumaBy (limits .left)) (lumaBy (limits .top)) (lumaBy (limits .inner)) left top t8 (after first (entries (now (bs .entry)))) origin stride (now (plane .entry)) ⌝ }
+    ensures { λ _. ⌜ now (plane .exit) ≡ lumaBoth (lumaWith (limits .left)) (lumaWith (limits .top)) (lumaWith (limits .inner)) left top t8 (after first (entries (now (bs .entry)))) origin stride (now (plane .entry)) ⌝ }
 {
     let l = limits.left;
     let t = limits.top;
@@ -147,8 +147,8 @@ pub fn chroma(
 )
     requires { ⌜ (left ≡ true → 2 * 1 ≤ origin) × (top ≡ true → 2 * stride ≤ origin) × (origin + 7 * stride + 7 < length (now u)) × (origin + 7 * stride + 7 < length (now v)) × (first + 32 ≤ length (now bs)) ⌝ }
     requires { ⌜ 8 ≤ stride ⌝ }
-    ensures { λ _. ⌜ now (u .exit) ≡ chromaBoth (chromaBy (cb .left)) (chromaBy (cb .top)) (chromaBy (cb .inner)) left top (after first (entries (now (bs .entry)))) origin stride (now (u .entry)) ⌝ }
-    ensures { λ _. ⌜ now (v .exit) ≡ chromaBoth (chromaBy (cr .left)) (chromaBy (cr .top)) (chromaBy (cr .inner)) left top (after first (entries (now (bs .entry)))) origin stride (now (v .entry)) ⌝ }
+    ensures { λ _. ⌜ now (u .exit) ≡ chromaBoth (chromaWith (cb .left)) (chromaWith (cb .top)) (chromaWith (cb .inner)) left top (after first (entries (now (bs .entry)))) origin stride (now (u .entry)) ⌝ }
+    ensures { λ _. ⌜ now (v .exit) ≡ chromaBoth (chromaWith (cr .left)) (chromaWith (cr .top)) (chromaWith (cr .inner)) left top (after first (entries (now (bs .entry)))) origin stride (now (v .entry)) ⌝ }
 {
     let horizontal = first + 16;
     let lu = across(cb);

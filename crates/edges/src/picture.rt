@@ -53,13 +53,15 @@ pub fn macroblock(
     let left = 0 < x;
     let top = 0 < row;
     let t8 = flag(t8s, i);
+    let at = 256 * p + 16 * x;
+    let stride = 16 * w;
+    let chroma_at = 64 * p + 8 * x;
+    let chroma_stride = 8 * w;
     let l = of_macroblock(t, qps, i, w, left, top, o);
     let ly = l.luma;
     let lc = l.chroma;
-    let at = 64 * p + 8 * x;
-    let stride = 8 * w;
-    luma(y, left, top, t8, 256 * p + 16 * x, 16 * w, bs, first, ly);
-    chroma(u, v, left, top, at, stride, bs, first, lc, lc);
+    luma(y, left, top, t8, at, stride, bs, first, ly);
+    chroma(u, v, left, top, chroma_at, chroma_stride, bs, first, lc, lc);
 }
 
 fn one_row(
@@ -83,7 +85,7 @@ fn one_row(
     }
 }
 
-// Rows a to b of a picture.
+// Rows a to b of a picture, of which b is not one.
 pub fn rows(
     y: &mut [u8],
     u: &mut [u8],

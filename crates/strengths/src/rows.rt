@@ -97,7 +97,7 @@ fn bad_values(w: usize, a: usize, b: usize, strengths: &[u8], qps: &[u8], t8s: &
     0
 }
 
-// Rows a to b. They read what lies from row a to row b, and the last row before them.
+// Rows a to b, of which b is not one. They read what lies in them, and the QPs of the row before them.
 pub fn filter_frame_rows(
     z: Size,
     a: usize,

@@ -1,6 +1,6 @@
 -- Apart: no promise rests on it. The fault of the old release at its smallest: 2 by 2 flat macroblocks, 100
 -- 103 above 105 104 in luma, QP 40, strength 1 on every edge between two of them. The recording `upper-right`
--- is this picture, with what a real decoder made of it.
+-- is this picture.
 use Prim.Native.Nat.{ℕ, zero, suc}
 use mathlib.Core.List.{List, [], _∷_, _++_}
 use lib.IntN.{pos}

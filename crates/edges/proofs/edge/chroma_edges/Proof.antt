@@ -1,23 +1,22 @@
 -- `chroma_edges`: the lines that `blocks` filters are the edges'. Assumes nothing.
 use borrow.Author.Needs.{needs}
 use mathlib.Core.Path.{_∙_}
-use Rattle.edges.specs.Levels.{numbersOf}
 use Rattle.edges.proofs.Segments.{pair-segments}
 use Rattle.edges.proofs.edge.chroma_edges.Statement.{statement}
 use Rattle.edges.proofs.edge.chroma_edges.Tie as tie
 
 chroma-pair-requires : tie.Need-chroma-pair-requires
-chroma-pair-requires c κs = let s = c .before .before .before .before .before .before .before in ((s .pre .0 .0, s .pre .0 .1), s .pre .1)
+chroma-pair-requires c κs = let s = c .before .before .before .before .before .before .before .before .before .before .before in ((s .pre .0 .0, s .pre .0 .1), s .pre .1)
 
 returns : tie.Need-returns
 returns c =
     let w = c .before .before .before .before in
     let i = w .before .before .before in
     let b = i .before in
-    let a = b .before .before .before .before .args in
+    let a = b .before .before .before .before .before .before .before .before .args in
     let e = rw (i .both2 .ensures, b .both .ensures) at (w .chroma-pair .ensures) in (
-      e .0 ∙ pair-segments _ _ (numbersOf (a .cb .border)) (numbersOf (a .cb .inside)) (a .at) (a .along) (a .step) (a .u .now),
-      e .1 ∙ pair-segments _ _ (numbersOf (a .cr .border)) (numbersOf (a .cr .inside)) (a .at) (a .along) (a .step) (a .v .now),
+      e .0 ∙ pair-segments _ _ (a .cb .border) (a .cb .inside) (a .at) (a .along) (a .step) (a .u .now),
+      e .1 ∙ pair-segments _ _ (a .cr .border) (a .cr .inside) (a .at) (a .along) (a .step) (a .v .now),
     )
 
 pub chroma-edges-spec : {M : Type 1} → statement M

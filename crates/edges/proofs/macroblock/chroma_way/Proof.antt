@@ -23,7 +23,7 @@ returns-2 : tie.Need-returns-2
 returns-2 c =
     let v = c .before .before in
     let u = v .before .before .before .before in
-    let i = u .before .before in
+    let i = u .before .before .before .before in
     let a = i .before .before .before .before .args in (
       rw (i .if1 .left) (chroma-far (entries (a .bs .now)) (a .first) (a .origin) (a .along) (a .step) _ _ (a .u .now) (u .chroma-edge .ensures)),
       rw (i .if1 .left) (chroma-far (entries (a .bs .now)) (a .first) (a .origin) (a .along) (a .step) _ _ (a .v .now) (v .chroma-edge2 .ensures)),

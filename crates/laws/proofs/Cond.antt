@@ -1,5 +1,4 @@
 -- A choice by a test. Assumes nothing.
-use mathlib.Core.Path.{_≡_, refl, sym}
 use mathlib.Core.Bool.{Bool, true, false, cond, not}
 use lib.Dec.{T}
 
@@ -11,8 +10,3 @@ cond-cases P false f g = g tt
 -- what holds of both cases holds of the choice
 pub cond-both : {A : Type 0} (P : A → Type 0) (b : Bool) {x y : A} → P x → P y → P (cond b x y)
 cond-both P b p q = cond-cases P b (λ t. p) (λ t. q)
-
--- a choice between what was done and what was there, where doing it changes nothing if the test fails
-pub cond-idle : {A : Type 0} (b : Bool) (x t : A) → (b ≡ false → x ≡ t) → cond b x t ≡ x
-cond-idle true x t h = refl
-cond-idle false x t h = sym (h refl)

@@ -1,9 +1,8 @@
--- Laws of two loops: side by side, one after the other, and one within the other. Assumes nothing.
+-- Laws of two loops: side by side, and one after the other. Assumes nothing.
 use mathlib.Core.Path.{_≡_, refl, ap, _∙_}
-use Prim.Native.Nat.{ℕ, zero, suc, _+_, _*_, _<_}
+use Prim.Native.Nat.{ℕ, zero, suc, _<_}
 use native.Mathlib.Omega.{arith}
 use Rattle.laws.specs.Loop.{upTo}
-use Rattle.laws.proofs.Loop.{upTo-same, upTo-flat}
 
 -- what each turn keeps of two states
 pub upTo-both : {S U : Type 0} (R : S → U → Type 0) (n : ℕ) (f : ℕ → S → S) (g : ℕ → U → U) (s : S) (u : U)
@@ -27,10 +26,3 @@ module _ {S : Type 0} where
   upTo-fuse (suc n) f g s e =
       ap (g n) (pass n (f n) g (upTo n f s) (λ i t l. e i n t l (omega arith)))
       ∙ ap (λ (t : S). g n (f n t)) (upTo-fuse n f g s (λ i j t l m. e i j t l (omega arith)))
-
-  -- m rows of n turns are m * n turns, if turn k of row r is turn r * n + k
-  pub rows-flat : (m n : ℕ) (f : ℕ → S → S) (g : ℕ → ℕ → S → S) (s : S) → ((r k : ℕ) (t : S) → r < m → k < n → g r k t ≡ f (r * n + k) t)
-      → upTo m (λ r. upTo n (g r)) s ≡ upTo (m * n) f s
-  rows-flat m n f g s e =
-      upTo-same m (λ r. upTo n (g r)) (λ r. upTo n (λ k. f (r * n + k))) s (λ r t h. upTo-same n (g r) (λ k. f (r * n + k)) t (λ k u l. e r k u h l))
-      ∙ upTo-flat m n f s

@@ -3,13 +3,25 @@
 //! A row of that page and its check stand together in one entry of a table here, so that a row that is not true fails.
 //! The rows are printed as the page has them, and host/run compares the two.
 
-use crate::differences_refused::{Row, Rust, REFUSED};
-use crate::differences_stated::{Stated, STATED};
+mod lengths;
+mod rows;
+mod stated;
+mod values;
+
 use crate::request::{Call, Request};
 use crate::subject::{Archive, Subject};
 use crate::table;
+use lengths::LENGTHS;
 use oracle::{Blocks, Grids, Offsets, Planes, Stored};
+use rows::{Row, Rust};
+use stated::{Stated, STATED};
 use std::panic::{catch_unwind, set_hook, take_hook, AssertUnwindSafe};
+use values::VALUES;
+
+/// The table by refusal number, in the order of the numbers.
+fn refused() -> impl Iterator<Item = &'static Row> {
+    LENGTHS.iter().chain(VALUES)
+}
 
 /// Prints both tables. True if every row is.
 pub fn run() -> bool {
@@ -17,7 +29,7 @@ pub fn run() -> bool {
     println!("| what | smallest input | here | elsewhere |\n|---|---|---|---|");
     let stated = STATED.iter().filter(|row| !told(&row.line(), row.check(&archive))).count();
     println!("\n| no. | smallest input | the Rust |\n|---|---|---|");
-    let refused = REFUSED.iter().filter(|row| !told(&row.line(), row.check(&archive))).count();
+    let refused = refused().filter(|row| !told(&row.line(), row.check(&archive))).count();
     stated + refused == 0
 }
 
@@ -280,11 +292,11 @@ mod tests {
     fn every_row_is_true() {
         let archive = Archive::new();
         let stated = STATED.iter().map(|row| (row.line(), row.check(&archive)));
-        let refused = REFUSED.iter().map(|row| (row.line(), row.check(&archive)));
-        for (line, checked) in stated.chain(refused) {
+        let lines = refused().map(|row| (row.line(), row.check(&archive)));
+        for (line, checked) in stated.chain(lines) {
             assert_eq!(checked, Ok(()), "{line}");
         }
-        assert!((1..=14).all(|no| REFUSED.iter().any(|row| row.no == no)));
-        assert!(REFUSED.windows(2).all(|rows| rows[0].no <= rows[1].no));
+        assert!((1..=14).all(|no| refused().any(|row| row.no == no)));
+        assert!(refused().map(|row| row.no).is_sorted());
     }
 }

@@ -2,8 +2,6 @@
 
 mod arrivals;
 mod differences;
-mod differences_refused;
-mod differences_stated;
 mod expect;
 mod fault;
 mod fence;

@@ -1,6 +1,6 @@
 //! The differences that are no refusals, from the original or from the standard, each with what can be run of it.
 
-use crate::differences::{edge, inter, intra, original, picture, strengths};
+use super::{edge, inter, intra, original, picture, strengths};
 use crate::request::{Call, Request};
 use crate::subject::{Archive, Subject};
 use oracle::{Blocks, Grids, Offsets, Planes, Stored};

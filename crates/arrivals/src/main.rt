@@ -1,5 +1,7 @@
-// Replays arrival orders of two small pictures, refused visits among them, and prints answers, marks, luma sample (15, 15) and sums of the planes.
-// What it must print (stdout) was written by `judge arrivals`: the Rust original filters each visited macroblock, and document 01's table answers.
+// Replays arrival orders of small pictures, refused visits among them, and prints answers, marks, luma sample
+// 495 ((15, 15) of a picture two wide) and sums of the planes. What it must print (stdout) was written by
+// `judge arrivals`: the Rust original filters each visited macroblock, and document 01's table answers. U and
+// V are filled differently, so that samples of one that end in the other show.
 ghost use Prim.Native.Nat.{_<_};
 use edges::Offsets;
 use edges::Size;
@@ -47,9 +49,14 @@ fn mixed_luma(i: usize) -> u8 {
     60 + ((j * 37 + j / 32 * 11) % 23) as u8
 }
 
-fn mixed_chroma(i: usize) -> u8 {
+fn mixed_u(i: usize) -> u8 {
     let j = i % 256;
     120 + ((j * 13 + j / 16 * 5) % 9) as u8
+}
+
+fn mixed_v(i: usize) -> u8 {
+    let j = i % 256;
+    90 + ((j * 7 + j / 16 * 3) % 8) as u8
 }
 
 fn mixed_strength(i: usize) -> u8 {
@@ -61,8 +68,12 @@ fn luma_of(picture: u8, i: usize) -> u8 {
     if picture == 0 { flat(i) } else { mixed_luma(i) }
 }
 
-fn chroma_of(picture: u8, i: usize) -> u8 {
-    if picture == 0 { 128 } else { mixed_chroma(i) }
+fn u_of(picture: u8, i: usize) -> u8 {
+    if picture == 0 { 128 } else { mixed_u(i) }
+}
+
+fn v_of(picture: u8, i: usize) -> u8 {
+    if picture == 0 { 127 } else { mixed_v(i) }
 }
 
 fn strength_of(picture: u8, i: usize) -> u8 {
@@ -73,13 +84,16 @@ fn strength_of(picture: u8, i: usize) -> u8 {
     }
 }
 
-// What a grid is filled with: 0 luma, 1 chroma, 2 strengths.
+// What a grid is filled with: 0 luma, 1 U, 2 V, 3 strengths.
 fn entry(what: u8, picture: u8, i: usize) -> u8 {
     if what == 0 {
         return luma_of(picture, i);
     }
     if what == 1 {
-        return chroma_of(picture, i);
+        return u_of(picture, i);
+    }
+    if what == 2 {
+        return v_of(picture, i);
     }
     strength_of(picture, i)
 }
@@ -103,6 +117,14 @@ fn sum(s: &[u8]) -> u64 {
         h = mixed_in(h, s[i]);
     }
     h
+}
+
+fn sums(luma: &[u8], u: &[u8], v: &[u8]) {
+    text(b", sums");
+    number(sum(luma));
+    number(sum(u));
+    number(sum(v));
+    text(b"\n");
 }
 
 fn four(s: &[u8; 4]) {
@@ -152,8 +174,8 @@ fn run(name: &[u8], picture: u8, xs: &[usize; 8], ys: &[usize; 8]) {
     let mut strengths = [0u8; 128];
     fill(&mut luma, 0, picture);
     fill(&mut u, 1, picture);
-    fill(&mut v, 1, picture);
-    fill(&mut strengths, 2, picture);
+    fill(&mut v, 2, picture);
+    fill(&mut strengths, 3, picture);
     let qps = qps_of(picture);
     let flags = [0u8, picture, 0u8, picture];
     let mut marks = [0u8; 4];
@@ -181,11 +203,7 @@ fn run(name: &[u8], picture: u8, xs: &[usize; 8], ys: &[usize; 8]) {
     four(&marks);
     text(b", sample");
     byte(luma[495]);
-    text(b", sums");
-    number(sum(&luma));
-    number(sum(&u));
-    number(sum(&v));
-    text(b"\n");
+    sums(&luma, &u, &v);
 }
 
 fn orders(picture: u8) {
@@ -215,9 +233,50 @@ fn orders(picture: u8) {
     );
 }
 
+// P12's second half: in a picture one wide (0, 1) has no upper right neighbour to wait for.
+fn one_wide() {
+    let mut luma = [0u8; 512];
+    let mut u = [0u8; 128];
+    let mut v = [0u8; 128];
+    let mut strengths = [0u8; 64];
+    fill(&mut luma, 0, 1);
+    fill(&mut u, 1, 1);
+    fill(&mut v, 2, 1);
+    fill(&mut strengths, 3, 1);
+    let mut marks = [0u8; 2];
+    let mut answers = [0u32; 2];
+    let n = replay(
+        Size { w: 1, h: 2 },
+        offsets_of(1),
+        &[0, 0],
+        &[0, 1],
+        &mut luma,
+        &mut u,
+        &mut v,
+        &strengths,
+        &[30, 36],
+        &[0, 1],
+        &mut marks,
+        &mut answers,
+    );
+    text(b"downwards:");
+    word(n);
+    text(b", answers");
+    word(answers[0]);
+    word(answers[1]);
+    text(b", marks");
+    byte(marks[0]);
+    byte(marks[1]);
+    text(b", sample");
+    byte(luma[495]);
+    sums(&luma, &u, &v);
+}
+
 fn main() {
     text(b"flat\n");
     orders(0);
     text(b"mixed\n");
     orders(1);
+    text(b"one wide\n");
+    one_wide();
 }

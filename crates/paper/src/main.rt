@@ -1,9 +1,12 @@
-// Prints the proved table of the rules' document as the code computes it. What it must print is written by hand from that document (stdout).
+// Prints P1 to P11 of the proved table of the rules' document as the code computes them. What it must print
+// (stdout) is written by hand from that document.
 use libc::STDOUT_FILENO;
 use lines::limits;
 use lines::limits::Limits;
 use lines::planes;
 use lines::tables;
+use motion::blocks::Blk;
+use motion::blocks::bs_inter;
 
 fn text(s: &[u8]) {
     io::write_all(STDOUT_FILENO, s);
@@ -68,6 +71,43 @@ fn chroma(name: &[u8], bs: u8, tc0: u8, a: u8, b: u8) {
     text(b"\n");
 }
 
+// An inter block with no coefficients: of each list a reference, -1 for none, and a horizontal vector.
+fn block(ref0: i32, x0: i16, ref1: i32, x1: i16) -> Blk {
+    Blk {
+        inter: true,
+        nz: false,
+        ref_id: ref0,
+        mvx: x0,
+        mvy: 0,
+        ref1,
+        mv1x: x1,
+        mv1y: 0,
+    }
+}
+
+// The strength between two such blocks, at the vertical 3 of frames.
+fn strength(p: Blk, q: Blk) {
+    number(bs_inter(3, p, q));
+}
+
+// One reference, and vectors that differ by x.
+fn apart(x: i16) {
+    strength(block(2, x, -1, 0), block(2, 0, -1, 0));
+}
+
+fn inter_blocks() {
+    text(b"P9 one reference, x differences -4 -3 3 4:");
+    apart(-4);
+    apart(-3);
+    apart(3);
+    apart(4);
+    text(b"\nP10 references 5 7 against 7 5:");
+    strength(block(5, 0, 7, 8), block(7, 8, 5, 0));
+    text(b"\nP11 reference 5 twice:");
+    strength(block(5, 0, 5, 8), block(5, 8, 5, 4));
+    text(b"\n");
+}
+
 fn main() {
     levels(b"P1 index 15:", 15, 0);
     levels(b"P1 index 16:", 16, 0);
@@ -80,4 +120,5 @@ fn main() {
     luma(b"P7 with 85:", 1, 1, 60, 85);
     chroma(b"P8 chroma, strength 1:", 1, 1, 60, 70);
     chroma(b"P8 chroma, strength 4:", 4, 0, 60, 70);
+    inter_blocks();
 }

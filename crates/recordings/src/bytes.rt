@@ -1,4 +1,13 @@
 // Bytes in and out.
+//
+// What a file holds and what is written lie outside of the program, and the kit's `write_all`,
+// `print_decimal` and `read_full` say nothing of them. So of `text`, `number` and `verdict`, which only
+// write, it is proved that they are safe and end, and nothing more can be said; of `fill`, that the length
+// stays. What is equal is decided elsewhere: by `check::same` of the kit, which answers true exactly where
+// two lists are equal, and by orders.rt.
+ghost use mathlib.Core.Path.{_≡_};
+ghost use lib.ListN.{length, getD};
+ghost use Rattle.recordings.specs.Bytes.{copied, ones};
 use libc::STDOUT_FILENO;
 
 pub fn text(s: &[u8]) {
@@ -7,31 +16,6 @@ pub fn text(s: &[u8]) {
 
 pub fn number(n: usize) {
     io::print_decimal(STDOUT_FILENO, n as u64);
-}
-
-// Reads as many bytes as s has, and answers whether the file had them.
-pub fn fill(fd: i32, s: &mut [u8]) -> bool {
-    io::read_full(fd, s) == s.len()
-}
-
-pub fn copy(to: &mut [u8], from: &[u8]) {
-    if to.len() != from.len() {
-        return;
-    }
-    for i in 0..to.len() {
-        to[i] = from[i];
-    }
-}
-
-pub fn equal(a: &[u8], b: &[u8]) -> bool {
-    if a.len() != b.len() {
-        return false;
-    }
-    let mut same = true;
-    for i in 0..a.len() {
-        same = same & (a[i] == b[i]);
-    }
-    same
 }
 
 pub fn verdict(name: &[u8], good: bool) {
@@ -44,15 +28,38 @@ pub fn verdict(name: &[u8], good: bool) {
     text(b" DIFFERENT");
 }
 
-pub fn all_ones(s: &[u8]) -> bool {
-    let mut ones = true;
-    for i in 0..s.len() {
-        ones = ones & (s[i] == 1);
-    }
-    ones
+// Reads as many bytes as s has, and answers whether the file had them.
+pub fn fill(fd: i32, s: &mut [u8]) -> bool
+    ensures { λ _. ⌜ length (now (s .exit)) ≡ length (now (s .entry)) ⌝ }
+{
+    io::read_full(fd, s) == s.len()
 }
 
-pub fn byte_at(s: &[u8], i: usize) -> u8 {
+pub fn copy(to: &mut [u8], from: &[u8])
+    ensures { λ _. ⌜ now (to .exit) ≡ copied (now (to .entry)) (now (from .entry)) ⌝ }
+{
+    if to.len() != from.len() {
+        return;
+    }
+    for i in 0..to.len() {
+        to[i] = from[i];
+    }
+}
+
+pub fn all_ones(s: &[u8]) -> bool
+    ensures { λ r. ⌜ r ≡ ones (now (s .entry)) ⌝ }
+{
+    let mut good = true;
+    for i in 0..s.len() {
+        good = good & (s[i] == 1);
+    }
+    good
+}
+
+// Past the end stands 0.
+pub fn byte_at(s: &[u8], i: usize) -> u8
+    ensures { λ r. ⌜ r ≡ getD (now (s .entry)) i 0 ⌝ }
+{
     if i < s.len() {
         return s[i];
     }

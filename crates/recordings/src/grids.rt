@@ -1,5 +1,14 @@
-// The grids of a recording, and the strengths that are derived from them.
+// The grids of a recording, and the strengths that are derived from them. No contract can say what a file
+// holds; that the strengths are those of some grids, which were read, is what `strengths_of` says
+// (`FromFile`).
+ghost use mathlib.Core.Path.{_≡_};
+ghost use mathlib.Core.Bool.{cond};
 ghost use Prim.Native.Nat.{_≤_};
+ghost use lib.ListN.{length};
+ghost use Rattle.laws.specs.Some.{every};
+ghost use Rattle.motion.specs.Grids.{grids};
+ghost use Rattle.recordings.specs.Grids.{served, derivedTo, Derived, FromFile};
+ghost use Rattle.recordings.specs.Places.{columnOf, rowOf};
 use crate::bytes::byte_at;
 use crate::bytes::fill;
 use crate::space;
@@ -65,7 +74,9 @@ fn derive<'a>(
     mv1: &'a [i16],
     t8s: &[u8],
     s: &mut [u8],
-) -> bool {
+) -> bool
+    ensures { λ r. ⌜ (r ≡ every n (served z (grids (now (inter .entry)) (now (nnz .entry)) (now (ref0 .entry)) (now (mv0 .entry)) (now (ref1 .entry)) (now (mv1 .entry))) (now (t8s .entry)) (length (now (s .entry))))) × (now (s .exit) ≡ derivedTo z (grids (now (inter .entry)) (now (nnz .entry)) (now (ref0 .entry)) (now (mv0 .entry)) (now (ref1 .entry)) (now (mv1 .entry))) (now (t8s .entry)) n (now (s .entry))) ⌝ }
+{
     let mut done = true;
     for i in 0..n {
         let x = column(i, z.w);
@@ -80,14 +91,18 @@ fn derive<'a>(
     done
 }
 
-pub fn column(i: usize, w: usize) -> usize {
+pub fn column(i: usize, w: usize) -> usize
+    ensures { λ r. ⌜ r ≡ columnOf i w ⌝ }
+{
     if w == 0 {
         return 0;
     }
     i % w
 }
 
-pub fn row(i: usize, w: usize) -> usize {
+pub fn row(i: usize, w: usize) -> usize
+    ensures { λ r. ⌜ r ≡ rowOf i w ⌝ }
+{
     if w == 0 {
         return 0;
     }
@@ -96,6 +111,7 @@ pub fn row(i: usize, w: usize) -> usize {
 
 pub fn only_if(on: bool, k: usize) -> usize
     ensures { λ r. ⌜ r ≤ k ⌝ }
+    ensures { λ r. ⌜ r ≡ cond on k 0 ⌝ }
 {
     if on {
         return k;
@@ -141,7 +157,9 @@ fn read_and_derive(
     raw_mvs1: &mut [u8],
     t8s: &[u8],
     s: &mut [u8],
-) -> bool {
+) -> bool
+    ensures { λ r. ⌜ Derived z (grids (now (inter .exit)) (now (nnz .exit)) (now (ref0 .exit)) (now (mv0 .exit)) (now (ref1 .exit)) (now (mv1 .exit))) (now (t8s .entry)) n (now (s .entry)) r (now (s .exit)) ⌝ }
+{
     let whole = read(
         fd,
         inter,
@@ -158,8 +176,11 @@ fn read_and_derive(
     whole & derive(z, n, inter, nnz, ref0, mv0, ref1, mv1, t8s, s)
 }
 
-// Reads the grids of at most 120 macroblocks and derives their strengths; false where there are more, the file is too short or a call was refused.
-pub fn strengths_of(fd: i32, z: Size, n: usize, lists: bool, t8s: &[u8], s: &mut [u8]) -> bool {
+// Reads the grids of at most 120 macroblocks and derives their strengths; false where there are more, the
+// file is too short or a call was refused.
+pub fn strengths_of(fd: i32, z: Size, n: usize, lists: bool, t8s: &[u8], s: &mut [u8]) -> bool
+    ensures { λ r. ⌜ FromFile z (now (t8s .entry)) n (now (s .entry)) r (now (s .exit)) ⌝ }
+{
     if 120 < n {
         return false;
     }

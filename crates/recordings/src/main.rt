@@ -1,13 +1,16 @@
-// Replays recordings (FORMAT.md) of a real decoder and of the Rust original. The arguments name the files, which hold one recording or several end to end. The
-// strengths derived from the recorded grids are those of the file, and the planes before the filter become those after it, filtered as a whole and by visits in
+// Replays recordings (FORMAT.md) of a real decoder and of the Rust original. The arguments name the files,
+// which hold one recording or several end to end. The strengths derived from the recorded grids are those of
+// the file, and the planes before the filter become those after it, filtered as a whole and by visits in
 // three orders. It prints a line for each; what it must print (stdout) is that all are equal.
+ghost use mathlib.Core.Path.{_≡_};
+ghost use Prim.Native.Nat.{_*_};
+
 mod bytes;
 mod grids;
 mod orders;
 mod space;
 
 use bytes::byte_at;
-use bytes::equal;
 use bytes::fill;
 use bytes::number;
 use bytes::text;
@@ -29,7 +32,8 @@ fn three(fd: i32, a: &mut [u8], b: &mut [u8], c: &mut [u8]) -> bool {
     fill(fd, a) & fill(fd, b) & fill(fd, c)
 }
 
-// What a header says: the size, how many macroblocks, whether there are list 1 and an 8x8 grid, whether the strengths are free of grids, the chroma offset.
+// What a header says: the size, how many macroblocks, whether there are list 1 and an 8x8 grid, whether the
+// strengths are free of grids, the chroma offset.
 struct Head {
     z: Size,
     n: usize,
@@ -69,10 +73,11 @@ fn same_strengths(free: bool, s: &[u8], told: &[u8]) {
         text(b", strengths as they are");
         return;
     }
-    verdict(b"strengths", equal(s, told));
+    verdict(b"strengths", check::same(s, told));
 }
 
 // What became of a recording: ay, au and av are the planes after the filter, told the strengths of the file.
+// What is printed as equal is equal: the contracts of `check::same` and `orders::all` say so.
 fn report(
     whole: bool,
     head: Head,
@@ -98,7 +103,11 @@ fn report(
         chroma: head.chroma,
     };
     same_strengths(head.free, s, told);
-    orders::all(head.z, head.n, o, y, u, v, ay, au, av, told, qps, t8s);
+    let d = orders::all(head.z, head.n, o, y, u, v, ay, au, av, told, qps, t8s);
+    verdict(b"picture", d.whole);
+    verdict(b"raster order", d.raster);
+    verdict(b"reverse order", d.reverse);
+    verdict(b"by sevens", d.sevens);
     text(b"\n");
 }
 
@@ -192,11 +201,15 @@ fn has(flags: u8, bit: u8) -> bool {
     flags / bit % 2 == 1
 }
 
-fn wide(b: u8) -> usize {
+fn wide(b: u8) -> usize
+    ensures { λ r. ⌜ r ≡ b ⌝ }
+{
     b as usize
 }
 
-fn product(a: u8, b: u8) -> usize {
+fn product(a: u8, b: u8) -> usize
+    ensures { λ r. ⌜ r ≡ a * b ⌝ }
+{
     a as usize * b as usize
 }
 

@@ -1,9 +1,15 @@
 // A recorded picture filtered anew: as a whole, and by visits in three orders with refused ones among them.
+// A verdict is true exactly where the planes that were made are the recorded ones (`Judged` of specs/Orders).
+ghost use mathlib.Core.Path.{_≡_};
+ghost use mathlib.Core.Bool.{true};
+ghost use mathlib.Core.Logic.{_↔_};
 ghost use Prim.Native.Nat.{_<_, _≤_};
+ghost use Rattle.edges.specs.Picture.{planes};
+ghost use Rattle.visits.specs.Checks.{given};
+ghost use Rattle.recordings.specs.Bytes.{copied};
+ghost use Rattle.recordings.specs.Orders.{isWhole, countOf, placeOf, turnsOf, visitsTo, filtered, Becomes, Holds, Judged};
 use crate::bytes::all_ones;
 use crate::bytes::copy;
-use crate::bytes::equal;
-use crate::bytes::verdict;
 use crate::grids::column;
 use crate::grids::row;
 use crate::space;
@@ -15,6 +21,7 @@ use visits::visits::visit;
 // 120 passes over n macroblocks: each pass visits one at least, so n are enough.
 fn turns(n: usize) -> usize
     ensures { λ r. ⌜ r ≤ 14400 ⌝ }
+    ensures { λ r. ⌜ r ≡ turnsOf n ⌝ }
 {
     if 120 < n {
         return 0;
@@ -22,7 +29,8 @@ fn turns(n: usize) -> usize
     120 * n
 }
 
-// How a picture is filtered: by the whole-picture call, or by visits in raster order, from the last macroblock to the first, or in steps of seven.
+// How a picture is filtered: by the whole-picture call, or by visits in raster order, from the last
+// macroblock to the first, or in steps of seven.
 pub enum Way {
     Whole,
     Raster,
@@ -30,25 +38,38 @@ pub enum Way {
     Sevens,
 }
 
+fn is_whole(way: Way) -> bool
+    ensures { λ r. ⌜ r ≡ isWhole way ⌝ }
+{
+    match way {
+        Way::Whole => true,
+        Way::Raster => false,
+        Way::Reverse => false,
+        Way::Sevens => false,
+    }
+}
+
+fn count(way: Way, t: usize) -> usize
+    requires { ⌜ t < 14400 ⌝ }
+    ensures { λ r. ⌜ r ≡ countOf way t ⌝ }
+{
+    match way {
+        Way::Whole => t,
+        Way::Raster => t,
+        Way::Reverse => 14399 - t,
+        Way::Sevens => 7 * t,
+    }
+}
+
 // The macroblock that is visited in turn t.
 fn place(way: Way, t: usize, n: usize) -> usize
     requires { ⌜ t < 14400 ⌝ }
+    ensures { λ r. ⌜ r ≡ placeOf way t n ⌝ }
 {
     if n == 0 {
         return 0;
     }
-    match way {
-        Way::Reverse => (14399 - t) % n,
-        Way::Sevens => 7 * t % n,
-        _ => t % n,
-    }
-}
-
-fn is_whole(way: Way) -> bool {
-    match way {
-        Way::Whole => true,
-        _ => false,
-    }
+    count(way, t) % n
 }
 
 // Tries all macroblocks again and again, so that each has a turn after those that it waits for.
@@ -64,7 +85,9 @@ fn visits_in(
     qps: &[u8],
     t8s: &[u8],
     marks: &mut [u8],
-) {
+)
+    ensures { λ _. ⌜ (planes (now (y .exit)) (now (u .exit)) (now (v .exit)), now (marks .exit)) ≡ visitsTo (turnsOf n) way (given z o (now (s .entry)) (now (qps .entry)) (now (t8s .entry))) n (planes (now (y .entry)) (now (u .entry)) (now (v .entry)), now (marks .entry)) ⌝ }
+{
     for t in 0..turns(n) {
         let i = place(way, t, n);
         visit(
@@ -95,7 +118,9 @@ fn filter(
     qps: &[u8],
     t8s: &[u8],
     marks: &mut [u8],
-) {
+)
+    ensures { λ _. ⌜ (planes (now (y .exit)) (now (u .exit)) (now (v .exit)), now (marks .exit)) ≡ filtered way (given z o (now (s .entry)) (now (qps .entry)) (now (t8s .entry))) n (planes (now (y .entry)) (now (u .entry)) (now (v .entry)), now (marks .entry)) ⌝ }
+{
     if is_whole(way) {
         filter_frame(z, o, y, u, v, s, qps, t8s);
         return;
@@ -103,14 +128,18 @@ fn filter(
     visits_in(way, z, n, o, y, u, v, s, qps, t8s, marks);
 }
 
-fn copies(ty: &mut [u8], tu: &mut [u8], tv: &mut [u8], y: &[u8], u: &[u8], v: &[u8]) {
+fn copies(ty: &mut [u8], tu: &mut [u8], tv: &mut [u8], y: &[u8], u: &[u8], v: &[u8])
+    ensures { λ _. ⌜ (now (ty .exit) ≡ copied (now (ty .entry)) (now (y .entry))) × (now (tu .exit) ≡ copied (now (tu .entry)) (now (u .entry))) × (now (tv .exit) ≡ copied (now (tv .entry)) (now (v .entry))) ⌝ }
+{
     copy(ty, y);
     copy(tu, u);
     copy(tv, v);
 }
 
-fn same(ty: &[u8], tu: &[u8], tv: &[u8], ay: &[u8], au: &[u8], av: &[u8]) -> bool {
-    equal(ty, ay) & equal(tu, au) & equal(tv, av)
+fn same(ty: &[u8], tu: &[u8], tv: &[u8], ay: &[u8], au: &[u8], av: &[u8]) -> bool
+    ensures { λ r. ⌜ (r ≡ true) ↔ (planes (now (ty .entry)) (now (tu .entry)) (now (tv .entry)) ≡ planes (now (ay .entry)) (now (au .entry)) (now (av .entry))) ⌝ }
+{
+    check::same(ty, ay) & check::same(tu, au) & check::same(tv, av)
 }
 
 // Whether planes that are filled with y, u and v become ay, au and av.
@@ -132,7 +161,9 @@ fn becomes(
     tu: &mut [u8],
     tv: &mut [u8],
     marks: &mut [u8],
-) -> bool {
+) -> bool
+    ensures { λ r. ⌜ (r ≡ true) ↔ Becomes way (given z o (now (s .entry)) (now (qps .entry)) (now (t8s .entry))) n (planes (copied (now (ty .entry)) (now (y .entry))) (copied (now (tu .entry)) (now (u .entry))) (copied (now (tv .entry)) (now (v .entry))), now (marks .entry)) (planes (now (ay .entry)) (now (au .entry)) (now (av .entry))) ⌝ }
+{
     copies(ty, tu, tv, y, u, v);
     filter(way, z, n, o, ty, tu, tv, s, qps, t8s, marks);
     let visited = is_whole(way) | all_ones(marks);
@@ -154,7 +185,9 @@ fn holds(
     s: &[u8],
     qps: &[u8],
     t8s: &[u8],
-) -> bool {
+) -> bool
+    ensures { λ r. ⌜ (r ≡ true) ↔ Holds way (given z o (now (s .entry)) (now (qps .entry)) (now (t8s .entry))) n (planes (now (y .entry)) (now (u .entry)) (now (v .entry))) (planes (now (ay .entry)) (now (au .entry)) (now (av .entry))) ⌝ }
+{
     if 120 < n {
         return false;
     }
@@ -185,6 +218,14 @@ fn holds(
     )
 }
 
+// Whether a picture came out as recorded, in each way.
+pub struct Verdicts {
+    pub whole: bool,
+    pub raster: bool,
+    pub reverse: bool,
+    pub sevens: bool,
+}
+
 pub fn all(
     z: Size,
     n: usize,
@@ -198,21 +239,17 @@ pub fn all(
     s: &[u8],
     qps: &[u8],
     t8s: &[u8],
-) {
-    verdict(
-        b"picture",
-        holds(Way::Whole, z, n, o, y, u, v, ay, au, av, s, qps, t8s),
-    );
-    verdict(
-        b"raster order",
-        holds(Way::Raster, z, n, o, y, u, v, ay, au, av, s, qps, t8s),
-    );
-    verdict(
-        b"reverse order",
-        holds(Way::Reverse, z, n, o, y, u, v, ay, au, av, s, qps, t8s),
-    );
-    verdict(
-        b"by sevens",
-        holds(Way::Sevens, z, n, o, y, u, v, ay, au, av, s, qps, t8s),
-    );
+) -> Verdicts
+    ensures { λ r. ⌜ Judged (given z o (now (s .entry)) (now (qps .entry)) (now (t8s .entry))) n (planes (now (y .entry)) (now (u .entry)) (now (v .entry))) (planes (now (ay .entry)) (now (au .entry)) (now (av .entry))) r ⌝ }
+{
+    let whole = holds(Way::Whole, z, n, o, y, u, v, ay, au, av, s, qps, t8s);
+    let raster = holds(Way::Raster, z, n, o, y, u, v, ay, au, av, s, qps, t8s);
+    let reverse = holds(Way::Reverse, z, n, o, y, u, v, ay, au, av, s, qps, t8s);
+    let sevens = holds(Way::Sevens, z, n, o, y, u, v, ay, au, av, s, qps, t8s);
+    Verdicts {
+        whole,
+        raster,
+        reverse,
+        sevens,
+    }
 }

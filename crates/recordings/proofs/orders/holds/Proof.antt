@@ -1,15 +1,34 @@
--- `holds`: the parts lent are within their spaces. Assumes nothing.
+-- `holds`: the parts lent are within their spaces, and zeros. Assumes nothing.
 use borrow.Author.Needs.{needs}
 use mathlib.Core.Path.{sym}
+use native.Mathlib.Omega.{arith}
 use lib.Seq.{length-take-le}
+use Rattle.recordings.proofs.Verdict.{too-large, in-space}
 use Rattle.recordings.proofs.orders.holds.Statement.{statement}
 use Rattle.recordings.proofs.orders.holds.Tie as tie
+
+returns : tie.Need-returns
+returns c = too-large _ _ _ _ _ (c .if1 .taken)
+
+returns-2 : tie.Need-returns-2
+returns-2 c =
+    let b = c .before .before .before .before in
+    let m = b .before .before .before .before .before in
+    let v = m .before in
+    let u = v .before in
+    let y = u .before in
+    in-space _ _ _ _ _ (y .luma .result) (u .chroma .result) (v .chroma2 .result) (m .marks .result) _ (omega (arith, y .before .if1 .left))
+    (y .luma .ensures .1)
+    (u .chroma .ensures .1)
+    (v .chroma2 .ensures .1)
+    (m .marks .ensures .1)
+    (b .becomes .ensures)
 
 pub holds-spec : {M : Type 1} → statement M
 holds-spec =
     tie.close
     (tie.spec
-    (λ c. search needs)
+    returns
     (λ c κs. search needs)
     (λ c κs. search needs)
     (λ c κs. search needs)
@@ -25,4 +44,4 @@ holds-spec =
     (λ c. search needs)
     (λ c. sym (length-take-le _ _ (search needs)))
     (λ c κs. search needs)
-    (λ c. search needs))
+    returns-2)

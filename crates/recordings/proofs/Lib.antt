@@ -1,0 +1,5 @@
+pub mod Derived
+pub mod Refused
+pub mod Turns
+pub mod Verdict
+pub mod Ways

@@ -1,0 +1,32 @@
+-- Wrong verdicts that look right, each shown to break the promise on a small picture. Assumes nothing.
+use Prim.Native.Nat.{ℕ}
+use mathlib.Core.Path.{_≡_, refl, ap}
+use mathlib.Core.Bool.{Bool, true}
+use mathlib.Core.List.{List, [], _∷_}
+use mathlib.Core.Logic.{_↔_}
+use native.Mathlib.Omega.{arith}
+use lib.ListN.{length, getD}
+use Rattle.edges.specs.Picture.{Planes, planes}
+
+-- one sample of V, 0 and 1
+abbrev none : Planes
+none = planes [] [] (0 ∷ [])
+
+abbrev one : Planes
+one = planes [] [] (1 ∷ [])
+
+-- a comparison that keeps the contract of `same`
+abbrev Compares : (Planes → Planes → Bool) → Type 0
+Compares f = (p q : Planes) → (f p q ≡ true) ↔ (p ≡ q)
+
+differ : none ≡ one → ⊥
+differ e = let z : _≡_ {A = ℕ} 0 1 = ap (λ (p : Planes). getD (p .v) 0 0) e in omega arith
+
+-- it does not look at the lengths alone
+pub by-length : (f : Planes → Planes → Bool) → Compares f
+    → ((p q : Planes) → length (p .y) ≡ length (q .y) → length (p .u) ≡ length (q .u) → length (p .v) ≡ length (q .v) → f p q ≡ true) → ⊥
+by-length f says alike = differ (says none one .0 (alike none one refl refl refl))
+
+-- nor does it leave V out
+pub without-v : (f : Planes → Planes → Bool) → Compares f → ((p q : Planes) → p .y ≡ q .y → p .u ≡ q .u → f p q ≡ true) → ⊥
+without-v f says alike = differ (says none one .0 (alike none one refl refl))

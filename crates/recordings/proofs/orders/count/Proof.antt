@@ -1,0 +1,19 @@
+-- `count`: by the ways. Assumes nothing.
+use borrow.Author.Needs.{needs}
+use Rattle.recordings.proofs.orders.count.Statement.{statement}
+use Rattle.recordings.proofs.orders.count.Tie as tie
+
+pub count-spec : {M : Type 1} → statement M
+count-spec =
+    tie.close
+    (tie.spec
+    (λ c. search needs)
+    (λ c. search needs)
+    (λ c. search needs)
+    (λ c. search needs)
+    (λ c. search needs)
+    (λ c. search needs)
+    (λ c. search needs)
+    (λ c. search needs)
+    (λ c. rw (c .enum-told3 .given .1))
+    (λ c. rw (c .enum-told4 .given .1)))

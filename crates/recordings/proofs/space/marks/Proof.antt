@@ -1,0 +1,12 @@
+-- `marks`: the array is the list of so many zeros. Assumes nothing.
+use mathlib.Core.Path.{refl}
+use Rattle.recordings.specs.Bytes.{zeros}
+use Rattle.recordings.proofs.space.marks.Statement.{statement}
+use Rattle.recordings.proofs.space.marks.Tie as tie
+
+returns : tie.Need-returns
+unfolding zeros
+returns c = (refl, refl)
+
+pub marks-spec : {M : Type 1} → statement M
+marks-spec = tie.close (tie.spec returns)

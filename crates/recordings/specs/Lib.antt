@@ -1,0 +1,4 @@
+pub mod Bytes
+pub mod Grids
+pub mod Orders
+pub mod Places

@@ -1,0 +1,10 @@
+-- Where macroblock i stands in a picture w wide. A header may say that w is 0: then both are 0.
+use Prim.Native.Nat.{ℕ, _/_, _%_}
+use mathlib.Core.Bool.{cond}
+use lib.Dec.{eqb}
+
+abbrev pub columnOf : ℕ → ℕ → ℕ
+columnOf i w = cond (eqb w 0) 0 (i % w)
+
+abbrev pub rowOf : ℕ → ℕ → ℕ
+rowOf i w = cond (eqb w 0) 0 (i / w)

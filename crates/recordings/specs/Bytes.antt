@@ -1,4 +1,5 @@
--- Lists of bytes: zeros, one copied over another, all of them 1.
+-- Apart: no promise to a caller rests on it, but what this program says of itself. Lists of bytes: zeros, one
+-- copied over another, all of them 1.
 use Prim.Native.Nat.{ℕ}
 use mathlib.Core.Bool.{Bool, cond}
 use mathlib.Core.List.{List}

@@ -1,4 +1,5 @@
--- The strengths of a picture, derived macroblock by macroblock from grids g.
+-- Apart: no promise to a caller rests on it, but what this program says of itself. The strengths of a
+-- picture, derived macroblock by macroblock from grids g.
 use Prim.Native.Nat.{ℕ, _+_, _*_, _≤_, _<_}
 use mathlib.Core.Path.{_≡_}
 use mathlib.Core.Bool.{Bool, true, false, cond, not}

@@ -1,4 +1,5 @@
--- A recorded picture filtered anew in four ways, and what it means that it becomes the recorded planes.
+-- Apart: no promise to a caller rests on it, but what this program says of itself. A recorded picture
+-- filtered anew in four ways, and what it means that it becomes the recorded planes.
 use Prim.Native.Nat.{ℕ, _-_, _*_, _%_, _≤_}
 use mathlib.Core.Path.{_≡_}
 use mathlib.Core.Logic.{_↔_}

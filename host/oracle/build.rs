@@ -1,7 +1,8 @@
 //! Finds the Rust original and lays it before the compiler.
 //!
 //! `predict.rs` is compiled where it stands. `deblock.rs` is compiled twice: where it stands, for the filter, and as a
-//! copy with ONE line after its text, which makes `src/probe.rs` a child module that sees the private `derive_mb_bs`.
+//! copy with one declaration after its text, which makes `src/probe.rs` a child module that sees the private
+//! `derive_mb_bs`.
 //! (`include!` is refused, since the file starts with `//!`.)
 
 use std::path::{Path, PathBuf};

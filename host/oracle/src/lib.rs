@@ -1,4 +1,5 @@
-//! The Rust original of the filter, unchanged and scalar, behind functions on plain slices.
+//! The Rust original of the filter, scalar, behind functions on plain slices: unchanged for filtering, and for strengths
+//! a copy with one module declared after its text.
 //!
 //! The first part is the thinnest shim in which its two files compile; nothing in it can change a result. The second
 //! part puts document 01's layouts into the original's types and back. The original has no refusals: outside document

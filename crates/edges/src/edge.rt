@@ -47,14 +47,14 @@ pub fn luma_edge(
     step: usize,
     bs: &[u8],
     first: usize,
-    limits: Thresholds,
+    l: Thresholds,
 )
     requires { ⌜ (at + 15 * along + 7 * step < length (now plane)) × (first + 4 ≤ length (now bs)) ⌝ }
     requires { ⌜ Straight 16 along step ⌝ }
-    ensures { λ _. ⌜ now (plane .exit) ≡ lumaEdge (lumaWith limits) (after first (entries (now (bs .entry)))) at along step (now (plane .entry)) ⌝ }
+    ensures { λ _. ⌜ now (plane .exit) ≡ lumaEdge (lumaWith l) (after first (entries (now (bs .entry)))) at along step (now (plane .entry)) ⌝ }
 {
     let s = four(bs, first);
-    luma_lines(plane, at, along, step, s, limits);
+    luma_lines(plane, at, along, step, s, l);
 }
 
 // An edge of one chroma plane.
@@ -65,13 +65,13 @@ pub fn chroma_edge(
     step: usize,
     bs: &[u8],
     first: usize,
-    limits: Thresholds,
+    l: Thresholds,
 )
     requires { ⌜ (at + 7 * along + 3 * step < length (now plane)) × (first + 4 ≤ length (now bs)) ⌝ }
-    ensures { λ _. ⌜ now (plane .exit) ≡ chromaEdge (chromaWith limits) (after first (entries (now (bs .entry)))) at along step (now (plane .entry)) ⌝ }
+    ensures { λ _. ⌜ now (plane .exit) ≡ chromaEdge (chromaWith l) (after first (entries (now (bs .entry)))) at along step (now (plane .entry)) ⌝ }
 {
     let s = four(bs, first);
-    chroma_lines(plane, at, along, step, s, limits);
+    chroma_lines(plane, at, along, step, s, l);
 }
 
 // Both edges of a direction in both chroma planes, by the strengths of luma's edges 0 and 2.

@@ -25,14 +25,14 @@ fn luma_edge_if(
     step: usize,
     bs: &[u8],
     first: usize,
-    limits: Thresholds,
+    l: Thresholds,
 )
     requires { ⌜ (on ≡ true → 4 * step ≤ q) × (q + 15 * along + 3 * step < length (now plane)) × (first + 4 ≤ length (now bs)) ⌝ }
     requires { ⌜ Straight 16 along step ⌝ }
-    ensures { λ _. ⌜ now (plane .exit) ≡ cond on (lumaEdge (lumaWith limits) (after first (entries (now (bs .entry)))) (q - 4 * step) along step (now (plane .entry))) (now (plane .entry)) ⌝ }
+    ensures { λ _. ⌜ now (plane .exit) ≡ cond on (lumaEdge (lumaWith l) (after first (entries (now (bs .entry)))) (q - 4 * step) along step (now (plane .entry))) (now (plane .entry)) ⌝ }
 {
     if on {
-        luma_edge(plane, q - 4 * step, along, step, bs, first, limits);
+        luma_edge(plane, q - 4 * step, along, step, bs, first, l);
     }
 }
 
@@ -119,15 +119,15 @@ pub fn luma(
     stride: usize,
     bs: &[u8],
     first: usize,
-    limits: Three,
+    m: Three,
 )
     requires { ⌜ (left ≡ true → 4 * 1 ≤ origin) × (top ≡ true → 4 * stride ≤ origin) × (origin + 15 * stride + 15 < length (now plane)) × (first + 32 ≤ length (now bs)) ⌝ }
     requires { ⌜ 16 ≤ stride ⌝ }
-    ensures { λ _. ⌜ now (plane .exit) ≡ lumaBoth (lumaWith (limits .left)) (lumaWith (limits .top)) (lumaWith (limits .inner)) left top t8 (after first (entries (now (bs .entry)))) origin stride (now (plane .entry)) ⌝ }
+    ensures { λ _. ⌜ now (plane .exit) ≡ lumaBoth (lumaWith (m .left)) (lumaWith (m .top)) (lumaWith (m .inner)) left top t8 (after first (entries (now (bs .entry)))) origin stride (now (plane .entry)) ⌝ }
 {
-    let l = limits.left;
-    let t = limits.top;
-    let i = limits.inner;
+    let l = m.left;
+    let t = m.top;
+    let i = m.inner;
     luma_way(plane, left, t8, origin, stride, 1, bs, first, l, i);
     luma_way(plane, top, t8, origin, 1, stride, bs, first + 16, t, i);
 }

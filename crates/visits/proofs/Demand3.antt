@@ -30,10 +30,6 @@ module _ (d : Given) (wide : 0 < d .size .w) where
   pub demand-3 : Demand3 (d .size .w) (d .size .h) (stepOf (heldOf d)) (earlyOf d) (visitOf d)
   demand-3 = any-order (d .size .w) (d .size .h) (stepOf (heldOf d)) (earlyOf d) (asks-place d) (commutes d wide)
 
-  -- what it does not ask for, and holds all the same
-  pub beyond-3 : Beyond3 (d .size .w) (d .size .h) (stepOf (heldOf d)) (earlyOf d) (visitOf d)
-  beyond-3 = beyond (d .size .w) (d .size .h) (stepOf (heldOf d)) (earlyOf d) (asks-place d) (commutes d wide)
-
   -- .. and of any calls that keep the contract of `visit`: where they lead, and the numbers ns that they
   -- answered, one for each request
   pub of-calls : {start : Planes} {rs : List At} {ns : List ℕ} {now : State Planes}
@@ -49,6 +45,10 @@ module _ (d : Given) (wide : 0 < d .size .w) where
       rw (r .leaves, zeros-are-fresh (d .size .w) (d .size .h) ms l z)
       (cond-both (AnyOrder (d .size .w) (d .size .h) (stepOf (heldOf d)) (earlyOf d) (visitOf d) start) (uneven xs ys out) (demand-3 start [])
       (demand-3 start (requests xs ys)))
+
+  -- what it does not ask for, and holds all the same
+  pub beyond-3 : Beyond3 (d .size .w) (d .size .h) (stepOf (heldOf d)) (earlyOf d) (visitOf d)
+  beyond-3 = beyond (d .size .w) (d .size .h) (stepOf (heldOf d)) (earlyOf d) (asks-place d) (commutes d wide)
 
   -- all visited: what filtering the whole picture gives
   pub same-as-whole : (start : Planes) (rs : List At) → let now = run (visitOf d) rs (unvisited d start) in

@@ -13,7 +13,7 @@ use Rattle.edges.specs.Picture.{Planes, planes}
 use Rattle.visits.specs.Checks.{Given}
 use Rattle.visits.specs.Visit.{State}
 use Rattle.recordings.specs.Bytes.{zeros, copied, ones}
-use Rattle.recordings.specs.Orders.{isWhole, filtered, Becomes, startOf, Holds}
+use Rattle.recordings.specs.Orders.{isWhole, filtered, Becomes, startOf, ComesOut}
 use Rattle.recordings.specs.declared.orders.Way.{Way}
 
 -- two tests are passed exactly where both facts hold
@@ -66,12 +66,12 @@ start-is n p e f g = rw (whole (256 * n) (p .y) e, whole (64 * n) (p .u) f, whol
 
 -- ---- a way in spaces of 120 macroblocks
 module _ (way : Way) (d : Given) (n : ℕ) (before after : Planes) where
-  pub too-large : 120 < n → (false ≡ true) ↔ Holds way d n before after
+  pub too-large : 120 < n → (false ≡ true) ↔ ComesOut way d n before after
   too-large h = (λ e. absurd (false≢true e), λ k. let s = k .small in absurd (omega arith))
 
   pub in-space : (y u v marks : List ℕ) (r : Bool) → n ≤ 120 → y ≡ zeros 30720 → u ≡ zeros 7680 → v ≡ zeros 7680 → marks ≡ zeros 120
       → (r ≡ true) ↔ Becomes way d n (planes (copied (take (256 * n) y) (before .y)) (copied (take (64 * n) u) (before .u)) (copied (take (64 * n) v) (before .v)), take n marks) after
-      → (r ≡ true) ↔ Holds way d n before after
+      → (r ≡ true) ↔ ComesOut way d n before after
   in-space y u v marks r h ey eu ev em b =
       let f : take (256 * n) y ≡ zeros (256 * n) = rw ey (take-zeros (256 * n) 30720 (omega arith)) in
       let g : take (64 * n) u ≡ zeros (64 * n) = rw eu (take-zeros (64 * n) 7680 (omega arith)) in

@@ -12,7 +12,7 @@ use Rattle.visits.specs.Checks.{Given, heldOf}
 use Rattle.visits.specs.Promise.{visitOf}
 use Rattle.visits.specs.Visit.{At, State}
 use Rattle.recordings.specs.Bytes.{zeros, copied, ones}
-use Rattle.recordings.specs.Places.{columnOf, rowOf}
+use Rattle.recordings.specs.Places.{columnAt, rowAt}
 use Rattle.recordings.specs.declared.orders.Verdicts.{Verdicts}
 use Rattle.recordings.specs.declared.orders.Way.{Way}
 use Rattle.recordings.specs.declared.orders.Way.the-variants.{Whole, Raster, Reverse, Sevens}
@@ -32,11 +32,11 @@ countOf Reverse t = 14399 - t
 countOf Sevens t = 7 * t
 
 -- the macroblock, of n, that is visited in turn t
-abbrev pub placeOf : Way → ℕ → ℕ → ℕ
-placeOf way t n = cond (eqb n 0) 0 (countOf way t % n)
+abbrev pub visitedIn : Way → ℕ → ℕ → ℕ
+visitedIn way t n = cond (eqb n 0) 0 (countOf way t % n)
 
 abbrev pub requestOf : Way → ℕ → ℕ → ℕ → At
-requestOf way n w t = (columnOf (placeOf way t n) w, rowOf (placeOf way t n) w)
+requestOf way n w t = (columnAt (visitedIn way t n) w, rowAt (visitedIn way t n) w)
 
 -- 120 passes over n macroblocks; none where there are more than 120
 abbrev pub turnsOf : ℕ → ℕ
@@ -70,13 +70,13 @@ startOf n p =
     (planes (copied (zeros (256 * n)) (p .y)) (copied (zeros (64 * n)) (p .u)) (copied (zeros (64 * n)) (p .v)), zeros n)
 
 -- a picture of at most 120 macroblocks becomes `after`
-pub record Holds (way : Way) (d : Given) (n : ℕ) (before after : Planes) : Type 0 where
+pub record ComesOut (way : Way) (d : Given) (n : ℕ) (before after : Planes) : Type 0 where
   pub small : n ≤ 120
   pub becomes : Becomes way d n (startOf n before) after
 
 -- each verdict is true exactly where its way holds
 pub record Judged (d : Given) (n : ℕ) (before after : Planes) (r : Verdicts) : Type 0 where
-  pub whole : (r .whole ≡ true) ↔ Holds Whole d n before after
-  pub raster : (r .raster ≡ true) ↔ Holds Raster d n before after
-  pub reverse : (r .reverse ≡ true) ↔ Holds Reverse d n before after
-  pub sevens : (r .sevens ≡ true) ↔ Holds Sevens d n before after
+  pub whole : (r .whole ≡ true) ↔ ComesOut Whole d n before after
+  pub raster : (r .raster ≡ true) ↔ ComesOut Raster d n before after
+  pub reverse : (r .reverse ≡ true) ↔ ComesOut Reverse d n before after
+  pub sevens : (r .sevens ≡ true) ↔ ComesOut Sevens d n before after

@@ -4,8 +4,8 @@ use Prim.Native.Nat.{ℕ, _/_, _%_}
 use mathlib.Core.Bool.{cond}
 use lib.Dec.{eqb}
 
-abbrev pub columnOf : ℕ → ℕ → ℕ
-columnOf i w = cond (eqb w 0) 0 (i % w)
+abbrev pub columnAt : ℕ → ℕ → ℕ
+columnAt i w = cond (eqb w 0) 0 (i % w)
 
-abbrev pub rowOf : ℕ → ℕ → ℕ
-rowOf i w = cond (eqb w 0) 0 (i / w)
+abbrev pub rowAt : ℕ → ℕ → ℕ
+rowAt i w = cond (eqb w 0) 0 (i / w)

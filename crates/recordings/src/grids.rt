@@ -1,14 +1,14 @@
 // The grids of a recording, and the strengths that are derived from them. No contract can say what a file
-// holds; that the strengths are those of some grids, which were read, is what `strengths_of` says
-// (`FromFile`).
+// holds, so `strengths_of` says of some grids that the strengths are theirs (`FromFile`); that they are the
+// ones that were read is plain from `read_and_derive` alone.
 ghost use mathlib.Core.Path.{_≡_};
 ghost use mathlib.Core.Bool.{cond};
 ghost use Prim.Native.Nat.{_≤_};
 ghost use lib.ListN.{length};
 ghost use Rattle.laws.specs.Some.{every};
 ghost use Rattle.motion.specs.Grids.{grids};
-ghost use Rattle.recordings.specs.Grids.{served, derivedTo, Derived, FromFile};
-ghost use Rattle.recordings.specs.Places.{columnOf, rowOf};
+ghost use Rattle.recordings.specs.Grids.{served, derivedTo, DerivedAll, FromFile};
+ghost use Rattle.recordings.specs.Places.{columnAt, rowAt};
 use crate::bytes::byte_at;
 use crate::bytes::fill;
 use crate::space;
@@ -92,7 +92,7 @@ fn derive<'a>(
 }
 
 pub fn column(i: usize, w: usize) -> usize
-    ensures { λ r. ⌜ r ≡ columnOf i w ⌝ }
+    ensures { λ r. ⌜ r ≡ columnAt i w ⌝ }
 {
     if w == 0 {
         return 0;
@@ -101,7 +101,7 @@ pub fn column(i: usize, w: usize) -> usize
 }
 
 pub fn row(i: usize, w: usize) -> usize
-    ensures { λ r. ⌜ r ≡ rowOf i w ⌝ }
+    ensures { λ r. ⌜ r ≡ rowAt i w ⌝ }
 {
     if w == 0 {
         return 0;
@@ -158,7 +158,7 @@ fn read_and_derive(
     t8s: &[u8],
     s: &mut [u8],
 ) -> bool
-    ensures { λ r. ⌜ Derived z (grids (now (inter .exit)) (now (nnz .exit)) (now (ref0 .exit)) (now (mv0 .exit)) (now (ref1 .exit)) (now (mv1 .exit))) (now (t8s .entry)) n (now (s .entry)) r (now (s .exit)) ⌝ }
+    ensures { λ r. ⌜ DerivedAll z (grids (now (inter .exit)) (now (nnz .exit)) (now (ref0 .exit)) (now (mv0 .exit)) (now (ref1 .exit)) (now (mv1 .exit))) (now (t8s .entry)) n (now (s .entry)) r (now (s .exit)) ⌝ }
 {
     let whole = read(
         fd,

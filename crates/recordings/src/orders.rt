@@ -7,7 +7,7 @@ ghost use Prim.Native.Nat.{_<_, _≤_};
 ghost use Rattle.edges.specs.Picture.{planes};
 ghost use Rattle.visits.specs.Checks.{given};
 ghost use Rattle.recordings.specs.Bytes.{copied};
-ghost use Rattle.recordings.specs.Orders.{isWhole, countOf, placeOf, turnsOf, visitsTo, filtered, Becomes, Holds, Judged};
+ghost use Rattle.recordings.specs.Orders.{isWhole, countOf, visitedIn, turnsOf, visitsTo, filtered, Becomes, ComesOut, Judged};
 use crate::bytes::all_ones;
 use crate::bytes::copy;
 use crate::grids::column;
@@ -64,7 +64,7 @@ fn count(way: Way, t: usize) -> usize
 // The macroblock that is visited in turn t.
 fn place(way: Way, t: usize, n: usize) -> usize
     requires { ⌜ t < 14400 ⌝ }
-    ensures { λ r. ⌜ r ≡ placeOf way t n ⌝ }
+    ensures { λ r. ⌜ r ≡ visitedIn way t n ⌝ }
 {
     if n == 0 {
         return 0;
@@ -186,7 +186,7 @@ fn holds(
     qps: &[u8],
     t8s: &[u8],
 ) -> bool
-    ensures { λ r. ⌜ (r ≡ true) ↔ Holds way (given z o (now (s .entry)) (now (qps .entry)) (now (t8s .entry))) n (planes (now (y .entry)) (now (u .entry)) (now (v .entry))) (planes (now (ay .entry)) (now (au .entry)) (now (av .entry))) ⌝ }
+    ensures { λ r. ⌜ (r ≡ true) ↔ ComesOut way (given z o (now (s .entry)) (now (qps .entry)) (now (t8s .entry))) n (planes (now (y .entry)) (now (u .entry)) (now (v .entry))) (planes (now (ay .entry)) (now (au .entry)) (now (av .entry))) ⌝ }
 {
     if 120 < n {
         return false;

@@ -20,6 +20,7 @@ function module(path,    i, crate, rest) {
 function take(line,    path, names, n, i, name) {
     path = line
     sub(/^(ghost )?use /, "", path)
+    if (path ~ /^Rattle·.* as /) alias[FILENAME] = 1
     if (path !~ /^Rattle·.*\.\{/) return
     names = path
     sub(/\.\{.*/, "", path)
@@ -78,8 +79,10 @@ heading { head[FILENAME] = head[FILENAME] substr($0, 3) }
 
 # ---- roots: what public functions ensure, and what the named theorems state
 kind == "code" && /^(pub )?(extern "C" )?fn / { public = /^pub / }
-kind == "code" { if (public && /^ *ensures /) refer(FILENAME SUBSEP "", $0); next }
-kind == "proof" && /^  pub / { stating = index(" " theorems " ", " " $2 " ") > 0 }
+kind == "code" && /^ *(requires|ensures) / { ensures = /^ *ensures / }
+kind == "code" && /^\{/ { ensures = 0 }
+kind == "code" { if (public && ensures) refer(FILENAME SUBSEP "", $0); next }
+kind == "proof" && /^  pub / { stating = index(" " theorems " ", " " $2 " ") > 0; found[$2] = 1 }
 kind == "proof" && !/^  pub / && /^  [^ -].* =/ { stating = 0 }
 kind == "proof" { if (stating) refer(FILENAME SUBSEP "", $0); next }
 
@@ -137,8 +140,13 @@ function ready(path,    i) {
 }
 
 END {
-    for (i = 1; i < ARGC; i++)
-        if (ARGV[i] ~ /^crates/ && ARGV[i] !~ /\/specs\//) follow(ARGV[i] SUBSEP "", ARGV[i])
+    n = split(theorems, theorem, " ")
+    for (i = 1; i <= n; i++) if (!(theorem[i] in found)) fail("there is no theorem " theorem[i])
+    for (i = 1; i < ARGC; i++) {
+        if (ARGV[i] !~ /^crates/ || ARGV[i] ~ /\/specs\//) continue
+        if (said[ARGV[i] SUBSEP ""] == "") fail(ARGV[i] ": no statement to start from")
+        follow(ARGV[i] SUBSEP "", ARGV[i])
+    }
     for (first = 1; first <= last; first++) follow(todo[first], file[todo[first]])
     print "| file | what it says | definitions | lines |"
     print "|---|---|---|---|"
@@ -154,6 +162,7 @@ END {
         apart = head[order[i]] ~ /^ Apart: /
         if (!wanted[order[i]] && !apart) fail(order[i] ": its first line does not say that it stands apart")
         if (wanted[order[i]] && apart) fail(order[i] ": says that it stands apart, but a promise rests on it")
+        if (wanted[order[i]] && alias[order[i]]) fail(order[i] ": names taken by `use .. as` are not followed")
     }
     print "| `src/` | the structs and enums of the code that these speak of | " structs " | |"
     printf "| all | %d files | | %d |\n", files, total

@@ -1,7 +1,7 @@
 -- Demand 3 holds of `visit`, for any filter whose steps commute unless the later waits for the earlier.
 -- Assumes nothing.
 use mathlib.Core.Path.{_≡_, sym, ap, _∙_}
-use mathlib.Core.Logic.{_≢_, _⊎_, inl, inr}
+use mathlib.Core.Logic.{_≢_}
 use mathlib.Core.List.{List, [], _∷_}
 use Prim.Native.Nat.{ℕ, _+_, _*_}
 use native.Mathlib.Omega.{arith}
@@ -12,7 +12,7 @@ use Rattle.laws.specs.Order.{Closed, Dep}
 use Rattle.laws.proofs.Raster.{raster-none, raster-all, insertion, closed-none}
 use Rattle.laws.proofs.Grid.{index-lt}
 use Rattle.visits.specs.Visit.{At, State, fresh, answer, serve, visit, run}
-use Rattle.visits.specs.AnyOrder.{AllVisited, Free, Demand3}
+use Rattle.visits.specs.AnyOrder.{Demand3}
 use Rattle.visits.specs.Instance.{AsksPlace, Commutes}
 use Rattle.visits.specs.Beyond.{Bits, Beyond3}
 use Rattle.visits.proofs.Neighbours.{free→ready, all→index}
@@ -75,18 +75,14 @@ module _
   at-run : (start : S) (rs : List At) → Inv start (run (visit W step early) rs (start, fresh W H))
   at-run start rs = inv-run start rs (start, fresh W H) (inv-start start)
 
-  ready-answers : (now : State S) → AllVisited W H (now .1) ⊎ Free W H (now .1)
-      → AllVisited W H (now .1) ⊎ ((f : Free W H (now .1)) × (early now (f .x, f .y) ≡ 0 → visit W step early now (f .x, f .y) .0 ≡ 0))
-  ready-answers now (inl all) = inl all
-  ready-answers now (inr f) = inr (f, λ e. done-where-ready W H step early inside now (f .x) (f .y) e (f .unvisited) (f .ready))
-
   pub any-order : Demand3 W H step early (visit W step early)
   any-order start rs = record {
     own-mark = sets-own-mark W step early now;
     refused = refused-unchanged W step early now;
     not-ready = not-ready-exactly W H step early inside now;
+    done = done-where-ready W H step early inside now;
     planes = at-run start rs .planes;
-    some-ready = ready-answers now (some-free W H (now .1));
+    some-ready = some-free W H (now .1);
   }
     where
       now : State S
@@ -97,7 +93,6 @@ module _
     whole = λ all. v .planes ∙ raster-all step (W * H) (now .1) start (all→index W H (now .1) all);
     earlier = earlier-first W step early now;
     already = already-exactly W H step early inside now;
-    done = done-where-ready W H step early inside now;
     size = v .size;
     bits = v .bits;
     kept = λ r i. marks-kept W step early now r (v .bits) i;

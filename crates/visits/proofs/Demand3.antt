@@ -56,9 +56,9 @@ module _ (d : Given) (wide : 0 < d .size .w) where
   same-as-whole start rs all = beyond-3 start rs .whole all ∙ sym (frame-steps (heldOf d) (d .size .h) start)
 
   -- .. and with strengths derived from the 4x4 grids g, the standard's picture straight from these
-  pub from-grids : (g : Grids) → Derived g (d .size) (d .t8s) (d .strengths) → (start : Planes) (rs : List At) → let now = run (visitOf d) rs (unvisited d start) in
+  pub visited-from-grids : (g : Grids) → Derived g (d .size) (d .t8s) (d .strengths) → (start : Planes) (rs : List At) → let now = run (visitOf d) rs (unvisited d start) in
       AllVisited (d .size .w) (d .size .h) (now .1) → now .0 ≡ pictureOf g (d .size) (d .qps) (d .t8s) (d .offsets) start
-  from-grids g k start rs all = same-as-whole start rs all ∙ derived-picture g (d .size) (d .t8s) (d .qps) (d .strengths) (d .offsets) start k
+  visited-from-grids g k start rs all = same-as-whole start rs all ∙ derived-picture g (d .size) (d .t8s) (d .qps) (d .strengths) (d .offsets) start k
 
   -- the two say all: any visit of which they hold gives these answers and these states
   pub one-behaviour : (other : Call Planes) → Demand3 (d .size .w) (d .size .h) (stepOf (heldOf d)) (earlyOf d) other

@@ -19,10 +19,9 @@ module _ (W H : ℕ) {S : Type 0} (step : ℕ → S → S) (early : State S → 
       → AllVisited W H (now .1) ⊎ ((x : ℕ) × (y : ℕ) × (x < W) × (y < H) × (call now (x, y) .0 ≡ 0))
   some-answers-0 now a clear = go (a .some-ready)
     where
-      go : AllVisited W H (now .1) ⊎ ((f : Free W H (now .1)) × (early now (f .x, f .y) ≡ 0 → call now (f .x, f .y) .0 ≡ 0))
-          → AllVisited W H (now .1) ⊎ ((x : ℕ) × (y : ℕ) × (x < W) × (y < H) × (call now (x, y) .0 ≡ 0))
+      go : AllVisited W H (now .1) ⊎ Free W H (now .1) → AllVisited W H (now .1) ⊎ ((x : ℕ) × (y : ℕ) × (x < W) × (y < H) × (call now (x, y) .0 ≡ 0))
       go (inl all) = inl all
-      go (inr (f, answers)) = inr (f .x, f .y, f .column, f .row, answers (clear (f .x) (f .y) (f .column) (f .row)))
+      go (inr f) = inr (f .x, f .y, f .column, f .row, a .done (f .x) (f .y) (clear (f .x) (f .y) (f .column) (f .row)) (f .unvisited) (f .ready))
 
   -- with valid data throughout, which each step keeps so: after any requests all are visited, or some visit
   -- answers 0

@@ -1,7 +1,7 @@
 -- Wrong visits. Each is written out and shown to contradict demand 3, or the promise of one visit, for any
 -- filter that does anything. Assumes nothing.
 use mathlib.Core.Path.{_≡_, refl, sym, ap, _∙_}
-use mathlib.Core.Logic.{_≢_, _⊎_, inl, inr}
+use mathlib.Core.Logic.{_≢_}
 use mathlib.Core.Bool.{Bool, true, cond, _&&_}
 use mathlib.Core.List.{List, [], _∷_}
 use Prim.Native.Nat.{ℕ, _+_, _*_, _<_}
@@ -10,13 +10,22 @@ use borrow.Author.Tests.{eq-eqb}
 use lib.Dec.{eqb}
 use lib.ListN.{getD, set}
 use Rattle.laws.specs.Loop.{upTo}
-use Rattle.laws.specs.Grid.{is-up-right}
+use Rattle.laws.specs.Grid.{Near, is-left, is-up, is-up-right}
 use Rattle.laws.proofs.Grid.{index-lt}
 use Rattle.visits.specs.Visit.{At, State, Call, fresh, marked, waiting, orElse, answer, serve, visit, Outcome}
-use Rattle.visits.specs.AnyOrder.{AllVisited, Free, AnyOrder, Demand3, Waits}
+use Rattle.visits.specs.AnyOrder.{AnyOrder, Demand3, Waits}
 use Rattle.visits.specs.Old.{oldVisit}
 use Rattle.visits.proofs.Marks.{fresh-none}
 use Rattle.visits.proofs.Old.{OldClear, old-1, old-2, run-on}
+
+-- (0, 0) waits for none
+origin-free : (W H : ℕ) (ms : List ℕ) → Waits W H ms 0 0 → ⊥
+origin-free W H ms w = go (w .near)
+  where
+    go : Near (w .nx) (w .ny) 0 0 → ⊥
+    go (is-left e f) = omega arith
+    go (is-up e f) = omega arith
+    go (is-up-right e f) = omega arith
 
 -- no mark is set
 abbrev pub noneMarked : List ℕ → Bool
@@ -36,19 +45,20 @@ module _ (W : ℕ) {S : Type 0} (step : ℕ → S → S) (early : State S → At
   abbrev pub readyFirst : State S → At → ℕ
   readyFirst s r = orElse (early s r) (cond (waiting W (s .1) (r .0) (r .1)) 14 (cond (marked W (s .1) (r .0) (r .1)) 13 0))
 
+  -- serves the first column alone, and says of every other macroblock that it is marked
+  abbrev pub turnsAway : Call S
+  turnsAway s r = cond (eqb (r .0) 0) (visit W step early s r) (13, s)
+
   -- sets its mark though it refuses
   abbrev pub marksRefused : Call S
   marksRefused s r = (answer W early s r, (serve W step (answer W early s r) s r .0, set (s .1) (r .1 * W + r .0) 1))
 
 module _ {S : Type 0} (step : ℕ → S → S) (early : State S → At → ℕ) (s : S) where
-  -- with whatever numbers: at the start some visit is ready
-  pub always-refuses : (W H : ℕ) → 0 < W → 0 < H → ((x y : ℕ) → x < W → y < H → early (s, fresh W H) (x, y) ≡ 0)
+  -- with whatever numbers: in every picture (0, 0) is ready at the start
+  pub always-refuses : (W H : ℕ) → 0 < W → 0 < H → early (s, fresh W H) (0, 0) ≡ 0
       → (number : State S → At → ℕ) → ((t : State S) (r : At) → number t r ≢ 0) → Demand3 W H step early (λ t r. (number t r, t)) → ⊥
-  always-refuses W H w h clear number never d = go (d s [] .some-ready)
-    where
-      go : AllVisited W H (fresh W H) ⊎ ((f : Free W H (fresh W H)) × (early (s, fresh W H) (f .x, f .y) ≡ 0 → number (s, fresh W H) (f .x, f .y) ≡ 0)) → ⊥
-      go (inl all) = fresh-none (W * H) (0 * W + 0) (index-lt W H 0 0 w h) (all 0 0 w h)
-      go (inr (f, answers)) = never (s, fresh W H) (f .x, f .y) (answers (clear (f .x) (f .y) (f .column) (f .row)))
+  always-refuses W H w h e number never d =
+      never (s, fresh W H) (0, 0) (d s [] .done 0 0 e (fresh-none (W * H) (0 * W + 0) (index-lt W H 0 0 w h)) (origin-free W H (fresh W H)))
 
   -- one macroblock, visited
   pub planes-untouched : early (s, 0 ∷ []) (0, 0) ≡ 0 → step 0 s ≢ s → Demand3 1 1 step early (idleVisit 1 step early) → ⊥
@@ -75,6 +85,25 @@ module _ {S : Type 0} (step : ℕ → S → S) (early : State S → At → ℕ) 
 
       end : AnyOrder 2 1 step early (firstOnly 2 step early) s (step 0 s, 1 ∷ 1 ∷ [])
       end = rw (run-on (firstOnly 2 step early) ((1, 0) ∷ []) one ∙ run-on (firstOnly 2 step early) [] two) at (d s ((0, 0) ∷ (1, 0) ∷ []))
+
+  -- the left one visited, the right one is ready
+  pub turns-away : early (s, 0 ∷ 0 ∷ []) (0, 0) ≡ 0 → early (step 0 s, 1 ∷ 0 ∷ []) (1, 0) ≡ 0 → Demand3 2 1 step early (turnsAway 2 step early) → ⊥
+  unfolding visit answer waiting
+  turns-away e f d = let k : _≡_ {A = ℕ} 13 0 = one .done 1 0 f (λ m. omega arith) free in omega arith
+    where
+      first : turnsAway 2 step early (s, fresh 2 1) (0, 0) ≡ (0, (step 0 s, 1 ∷ 0 ∷ []))
+      first = rw (eq-eqb _ 0 e)
+
+      one : AnyOrder 2 1 step early (turnsAway 2 step early) s (step 0 s, 1 ∷ 0 ∷ [])
+      one = rw (run-on (turnsAway 2 step early) [] first) at (d s ((0, 0) ∷ []))
+
+      free : Waits 2 1 (1 ∷ 0 ∷ []) 1 0 → ⊥
+      free w = go (w .near)
+        where
+          go : Near (w .nx) (w .ny) 1 0 → ⊥
+          go (is-left p q) = let i : w .ny * 2 + w .nx ≡ 0 = omega arith in w .unvisited (ap (λ (n : ℕ). getD (1 ∷ 0 ∷ []) n 0) i)
+          go (is-up p q) = omega arith
+          go (is-up-right p q) = omega arith
 
   -- the old rule, whatever the filter: after (0, 0) of 2 by 2, (0, 1) still waits for (1, 0)
   pub without-upper-right : OldClear step early s → Demand3 2 2 step early (oldVisit 2 step early) → ⊥

@@ -43,7 +43,7 @@ module _
           by-mark : Dec (Visited W (now .1) (r .0) (r .1)) → Dec (Waits W H (now .1) (r .0) (r .1)) → one now r .0 ≡ other now r .0
           by-mark (yes m) d = a .1 .already (r .0) (r .1) e .1 m ∙ sym (b .1 .already (r .0) (r .1) e .1 m)
           by-mark (no u) (yes w) = a .0 .not-ready (r .0) (r .1) e u .1 w ∙ sym (b .0 .not-ready (r .0) (r .1) e u .1 w)
-          by-mark (no u) (no f) = a .1 .done (r .0) (r .1) e u f ∙ sym (b .1 .done (r .0) (r .1) e u f)
+          by-mark (no u) (no f) = a .0 .done (r .0) (r .1) e u f ∙ sym (b .0 .done (r .0) (r .1) e u f)
 
   same-state : {start : S} (now : State S) (r : At) → Known one start now → Known other start now
       → Known one start (one now r .1) → Known other start (other now r .1) → one now r .1 ≡ other now r .1

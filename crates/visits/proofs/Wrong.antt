@@ -31,14 +31,14 @@ use Rattle.visits.proofs.Marks.{fresh-bits}
 use Rattle.visits.proofs.Instance.{fit-kept, passes-valid}
 use Rattle.visits.proofs.Fault as fault
 use Rattle.visits.proofs.Refused as refused
-use Rattle.visits.proofs.Refused.{idleVisit, firstOnly, readyFirst, marksRefused}
+use Rattle.visits.proofs.Refused.{idleVisit, firstOnly, turnsAway, readyFirst, marksRefused}
 
 -- ---- always refuses: with valid data, on any picture
 pub always-refuses : (d : Given) → Sound d → 0 < d .size .w → 0 < d .size .h → (start : Planes) → Fit d start → (number : State Planes → At → ℕ)
     → ((t : State Planes) (r : At) → number t r ≢ 0) → Demand3 (d .size .w) (d .size .h) (stepOf (heldOf d)) (earlyOf d) (λ t r. (number t r, t)) → ⊥
 always-refuses d v w h start f =
     refused.always-refuses (stepOf (heldOf d)) (earlyOf d) start (d .size .w) (d .size .h) w h
-    (passes-valid d v (start, fresh (d .size .w) (d .size .h)) f (length-replicate (d .size .w * d .size .h) 0) (fresh-bits (d .size .w * d .size .h)))
+    (passes-valid d v (start, fresh (d .size .w) (d .size .h)) f (length-replicate (d .size .w * d .size .h) 0) (fresh-bits (d .size .w * d .size .h)) 0 0 w h)
 
 -- ---- two macroblocks side by side, the upper row of Fault.antt
 abbrev pub pairGiven : Given
@@ -70,6 +70,12 @@ pub first-only : Demand3 2 1 pairStep (earlyOf pairGiven) (firstOnly 2 pairStep 
 first-only =
     refused.first-only pairStep (earlyOf pairGiven) pair (pair-clear pair pair-fit 0 0 0 tt (omega arith))
     (pair-clear (pairStep 0 pair) (fit-kept pairGiven 0 pair pair-fit) 1 0 1 tt (omega arith)) pair-moves
+
+-- refuses a ready macroblock with another number
+pub turns-away : Demand3 2 1 pairStep (earlyOf pairGiven) (turnsAway 2 pairStep (earlyOf pairGiven)) → ⊥
+turns-away =
+    refused.turns-away pairStep (earlyOf pairGiven) pair (pair-clear pair pair-fit 0 0 0 tt (omega arith))
+    (pair-clear (pairStep 0 pair) (fit-kept pairGiven 0 pair pair-fit) 1 0 1 tt (omega arith))
 
 -- asks 14 before 13: no answer and no state after it is allowed
 pub ready-first : (t : State Planes) → VisitOutcome pairGiven (pair, 0 ∷ 1 ∷ []) (1, 0) (readyFirst 2 pairStep (earlyOf pairGiven) (pair, 0 ∷ 1 ∷ []) (1, 0)) t → ⊥

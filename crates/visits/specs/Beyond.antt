@@ -6,7 +6,7 @@ use mathlib.Core.Logic.{_≢_, _↔_}
 use mathlib.Core.List.{List}
 use lib.ListN.{length, getD}
 use Rattle.laws.specs.Loop.{upTo}
-use Rattle.visits.specs.AnyOrder.{Visited, Unvisited, Waits, AllVisited}
+use Rattle.visits.specs.AnyOrder.{Visited, AllVisited}
 use Rattle.visits.specs.Visit.{At, State, Call, fresh, run}
 
 -- each mark is 0 or 1
@@ -17,10 +17,9 @@ module _ (W H : ℕ) {S : Type 0} (step : ℕ → S → S) (early : State S → 
   pub record Beyond (start : S) (now : State S) : Type 0 where
     -- with all of them visited the planes hold the whole picture
     pub whole : AllVisited W H (now .1) → now .0 ≡ upTo (W * H) step start
-    -- the checks before 13, then 13, and all checks passed: done
+    -- the checks before 13, and 13
     pub earlier : (r : At) → early now r ≢ 0 → call now r .0 ≡ early now r
     pub already : (x y : ℕ) → early now (x, y) ≡ 0 → (call now (x, y) .0 ≡ 13) ↔ Visited W (now .1) x y
-    pub done : (x y : ℕ) → early now (x, y) ≡ 0 → Unvisited W (now .1) x y → (Waits W H (now .1) x y → ⊥) → call now (x, y) .0 ≡ 0
     -- a mark for each macroblock, 0 or 1, and none is taken back
     pub size : length (now .1) ≡ W * H
     pub bits : Bits (now .1)

@@ -114,7 +114,7 @@ function follow(at, source,    n, i, name) {
 function row(path,    n, i, name, list, sum, title) {
     n = split(items[path], name, SUBSEP)
     for (i = 2; i <= n; i++) {
-        if (!(path SUBSEP name[i] in reached)) fail(path ": no promise rests on " name[i] ": it belongs apart")
+        if (!(path SUBSEP name[i] in reached)) fail(path ": no promise rests on " name[i] ", so it is apart")
         list = list (list == "" ? "" : ", ") "`" name[i] "`"
         sum += lines[path SUBSEP name[i]]
     }
@@ -162,7 +162,7 @@ END {
         apart = head[order[i]] ~ /^ Apart: /
         if (!wanted[order[i]] && !apart) fail(order[i] ": its first line does not say that it stands apart")
         if (wanted[order[i]] && apart) fail(order[i] ": says that it stands apart, but a promise rests on it")
-        if (wanted[order[i]] && alias[order[i]]) fail(order[i] ": names taken by `use .. as` are not followed")
+        if (wanted[order[i]] && alias[order[i]]) fail(order[i] ": names taken by `as` are not followed")
     }
     print "| `src/` | the structs and enums of the code that these speak of | " structs " | |"
     printf "| all | %d files | | %d |\n", files, total

@@ -1,7 +1,7 @@
 //! Finds the archive of the proved filter and hands it to the linker.
 //!
-//! DEBLOCK_ARCHIVE names it; without that it is target/staticlib/libstation.a, which `rt staticlib station` writes for
-//! x86-64, or, on other machines, target/native/libstation.a, which native-staticlib writes.
+//! DEBLOCK_ARCHIVE names it; without that it is target/staticlib/libstation.a, which `rt staticlib station`
+//! writes for x86-64, or, on other machines, target/native/libstation.a, which native-staticlib writes.
 
 use std::env;
 use std::path::PathBuf;

@@ -1,9 +1,8 @@
 //! Finds the Rust original and lays it before the compiler.
 //!
-//! `predict.rs` is compiled where it stands. `deblock.rs` is compiled twice: where it stands, for the filter, and as a
-//! copy with one declaration after its text, which makes `src/probe.rs` a child module that sees the private
-//! `derive_mb_bs`.
-//! (`include!` is refused, since the file starts with `//!`.)
+//! `predict.rs` is compiled where it stands. `deblock.rs` is compiled twice: where it stands, for the filter,
+//! and as a copy with one declaration after its text, which makes `src/probe.rs` a child module that sees the
+//! private `derive_mb_bs`. (`include!` is refused, since the file starts with `//!`.)
 
 use std::path::{Path, PathBuf};
 use std::{env, fs};
@@ -34,7 +33,8 @@ fn main() {
     }
 }
 
-/// The folder of the original's sources: DEBLOCK_SRC, else docs/src of the repository, else ../shared/docs/src.
+/// The folder of the original's sources: DEBLOCK_SRC, else docs/src of the repository, else
+/// ../shared/docs/src.
 fn find(here: &Path) -> Option<PathBuf> {
     let root = here.join("../..");
     let given = env::var_os("DEBLOCK_SRC").map(PathBuf::from);

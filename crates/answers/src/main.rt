@@ -1,5 +1,6 @@
-// Runs the strength calls and the filtering calls on a picture of 2 by 1 macroblocks and prints each answer with what the call left. What it must print
-// (stdout) was made by the Rust original: host/oracle/examples/answers.rs makes the same calls of it.
+// Runs the strength calls and the filtering calls on a picture of 2 by 1 macroblocks and prints each answer
+// with what the call left. What it must print (stdout) was made by the Rust original:
+// host/oracle/examples/answers.rs makes the same calls of it.
 use edges::Offsets;
 use edges::Size;
 use libc::STDOUT_FILENO;

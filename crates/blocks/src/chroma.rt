@@ -1,6 +1,7 @@
-// The chroma lines of two edges of both planes: loaded into a block, filtered there, stored; or of one edge of
-// one plane, one by one. `at` is the place of the first line's first sample, `along` the way from a line to the
-// next and `step` the way across; the second edge is four samples after the first, so that the two share none.
+// The chroma lines of two edges of both planes: loaded into a block, filtered there, stored; or of one edge
+// of one plane, one by one. `at` is the place of the first line's first sample, `along` the way from a line
+// to the next and `step` the way across; the second edge is four samples after the first, so that the two
+// share none.
 ghost use mathlib.Core.Path.{_≡_};
 ghost use Prim.Native.Nat.{_+_, _*_, _<_};
 ghost use mathlib.Core.Bool.{_&&_};

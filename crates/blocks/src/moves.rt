@@ -1,5 +1,5 @@
-// Samples moved between a luma plane and a block: a horizontal edge's rows are the block's, a vertical edge's 16
-// rows of 8 are turned by zips. `zip` and `copy8` serve chroma too.
+// Samples moved between a luma plane and a block: a horizontal edge's rows are the block's, a vertical edge's
+// 16 rows of 8 are turned by zips. `zip` and `copy8` serve chroma too.
 ghost use mathlib.Core.Path.{_≡_};
 ghost use Prim.Native.Nat.{_+_, _*_, _≤_};
 ghost use lib.ListN.{length};

@@ -24,8 +24,8 @@ fn half_cols(t: &mut [u8], to: usize, p: &[u8], at: usize, stride: usize)
     }
 }
 
-// V first: begun like `load_cols`, the loads that both begin with are taken out of both as single bytes, which
-// made the whole a seventh slower in a sketch on x86-64.
+// V first: begun like `load_cols`, the loads that both begin with are taken out of both as single bytes,
+// which made the whole a seventh slower in a sketch on x86-64.
 pub fn load_rows(u: &[u8], v: &[u8], at: usize, stride: usize) -> [u8; 128]
     requires { ⌜ (at + 7 * stride + 8 ≤ length (now u)) × (at + 7 * stride + 8 ≤ length (now v)) ⌝ }
     ensures { λ r. ⌜ r ≡ rowsIn 0 8 at stride (now (u .entry)) (rowsIn 8 8 at stride (now (v .entry)) blank) ⌝ }

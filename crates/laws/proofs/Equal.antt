@@ -1,4 +1,5 @@
--- Tests that pass together, equality of whole numbers as a test, and equality of signed machine numbers by their bits. Assumes nothing.
+-- Tests that pass together, equality of whole numbers as a test, and equality of signed machine numbers by
+-- their bits. Assumes nothing.
 use mathlib.Core.Path.{_≡_, refl, sym, ap, _∙_, subst}
 use mathlib.Core.Bool.{Bool, true, false}
 use Prim.Native.Nat.{_^_, _<_}

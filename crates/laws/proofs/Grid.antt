@@ -1,4 +1,5 @@
--- Two macroblocks whose footprints meet are the same, or one is the left, upper or upper right neighbour of the other. Assumes nothing.
+-- Two macroblocks whose footprints meet are the same, or one is the left, upper or upper right neighbour of
+-- the other. Assumes nothing.
 use mathlib.Core.Path.{_≡_, sym, ap, subst}
 use Prim.Native.Nat.{ℕ, _+_, _*_, _/_, _%_, _≤_, _<_}
 use native.Mathlib.Nat.{mod-lt, div-add-mod', mul-le-mul-right, le-trans}
@@ -75,7 +76,8 @@ foot-at N W i r c h t =
     subst (λ (a : ℕ). Touch (i % W) (i / W) (a / N) ((r * (N * W) + c) / (N * W) / N)) (sym (digits-mod r h))
     (subst (λ (a : ℕ). Touch (i % W) (i / W) (c / N) (a / N)) (sym (digits-div r h)) t)
 
--- steps that each stay in their footprint commute unless the later waits for the earlier: what `insertion` asks
+-- steps that each stay in their footprint commute unless the later waits for the earlier: what `insertion`
+-- asks
 pub steps-commute : (N W : ℕ) → 0 < W → (step : ℕ → Plane → Plane) → ((i : ℕ) → Local (Foot N W i) (step i))
     → (a b : ℕ) → a < b → (Dep W a b → ⊥) → (s : Plane) → step a (step b s) ≡ step b (step a s)
 steps-commute N W w step l a b h n s =

@@ -1,5 +1,5 @@
--- Local functions: two whose footprints do not meet may be made in either order, and locality is kept by all that a filter is built of.
--- Assumes nothing.
+-- Local functions: two whose footprints do not meet may be made in either order, and locality is kept by all
+-- that a filter is built of. Assumes nothing.
 use mathlib.Core.Path.{_≡_, refl, sym, ap, subst, _∙_}
 use mathlib.Core.Bool.{Bool, true, false, cond}
 use mathlib.Core.List.{List, [], _∷_}
@@ -90,7 +90,8 @@ module _ (F : ℕ → Type 0) where
       local-through (places at step (suc (suc n))) (places (at + step) step n) f (all-places F (suc (suc n)) at step h)
       (all-places F n (at + step) step (λ k l. let e : at + suc k * step ≡ at + step + k * step = omega arith in subst F e (h (suc k) (omega arith))))
 
--- a line by itself: its footprint is its own places, and lines with no place in common may be made in either order
+-- a line by itself: its footprint is its own places, and lines with no place in common may be made in either
+-- order
 pub local-line : (ps qs : List ℕ) (f : List ℕ → List ℕ) → All (Among ps) qs → Local (Among ps) (through ps qs f)
 local-line ps qs f k = local-through (Among ps) ps qs f (all-among (Among ps) ps (λ p m. m)) k
 

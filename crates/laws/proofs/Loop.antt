@@ -1,4 +1,5 @@
--- Laws of loops. Those of `loops` are the three that a function with a loop needs: its start, a turn, its end. Assumes nothing.
+-- Laws of loops. Those of `loops` are the three that a function with a loop needs: its start, a turn, its
+-- end. Assumes nothing.
 use Prim.Native.Nat.{ℕ, zero, suc, _+_, _*_, _-_, _<_, _≤_}
 use mathlib.Core.Path.{_≡_, refl, sym, ap, _∙_}
 use native.Mathlib.Nat.{le-antisymm, mul-le-mul-right, add-zero, zero-add, add-suc, zero-mul, suc-mul}
@@ -86,7 +87,8 @@ module _ {S : Type 0} where
       let e : n - 0 ≡ n = omega arith in
       ap (λ (m : ℕ). upTo m (λ (i : ℕ) (t : S). f (0 + i) t) s) e ∙ upTo-same n _ f s (λ k t h. ap (λ (i : ℕ). f i t) (zero-add k))
 
--- a factor below n makes a product that is at most that of n - 1: the bound of an index i * k in a loop of n turns
+-- a factor below n makes a product that is at most that of n - 1: the bound of an index i * k in a loop of n
+-- turns
 pub mul-below : (i n k : ℕ) → i < n → i * k ≤ (n - 1) * k
 mul-below i n k h = mul-le-mul-right k (omega arith)
 

@@ -1,10 +1,10 @@
--- Signed machine numbers. A `Num w` is a number of the code at the width w: the bits that its local holds, the integer that they are, and a
--- size that the integer is at most away from 0. There is one for each operation, made of the operands' and of a test on sizes that antt computes (`tt`):
---     byte, nat, lit                    an unsigned number that was cast, a literal
---     int, returned, cast               a signed parameter, a call's result, either of them cast
---     add, sub, mul, neg, shr           what an operation makes
---     add-ok, sub-ok, mul-ok, neg-ok, cast-ok    what the operation's need asks: the result fits
--- All are `abbrev`, so that the bits compute to those of the goal. Assumes nothing.
+-- Signed machine numbers. A `Num w` is a number of the code at the width w: the bits that its local holds,
+-- the integer that they are, and a size that the integer is at most away from 0. There is one for each
+-- operation, made of the operands' and of a test on sizes that antt computes (`tt`): byte, nat, lit
+-- an unsigned number that was cast, a literal int, returned, cast               a signed parameter, a call's
+-- result, either of them cast add, sub, mul, neg, shr           what an operation makes add-ok, sub-ok,
+-- mul-ok, neg-ok, cast-ok    what the operation's need asks: the result fits All are `abbrev`, so that the
+-- bits compute to those of the goal. Assumes nothing.
 use mathlib.Core.Path.{_≡_, ap, subst, _∙_}
 use Prim.Native.Nat.{ℕ, _+_, _*_, _^_, _≤_, _<_}
 use native.Mathlib.Nat.{le-refl, le-trans, lt-of-le-of-lt, mul-le-mul}
@@ -53,7 +53,8 @@ int-small {w} {z} f = natAbs-le z (f .sfits)
 abbrev pub int : {w : Width} {z : ℤ} → SFits w z → Num w
 int {w} {z} f = record { bits = ofZ w z; val = z; size = 2 ^ hbits w; reads = toZ-ofZ f; small = int-small f }
 
--- what a call returned, read back from its local: `result w (c .f .ok) (c .f .ensures)`; and as a number, with a bound of what it ensures
+-- what a call returned, read back from its local: `result w (c .f .ok) (c .f .ensures)`; and as a number,
+-- with a bound of what it ensures
 pub result : (w : Width) {z u : ℤ} → mag z < 2 ^ hbits w → z ≡ u → toZ w (ofZ w z) ≡ u
 result w f e = toZ-ofZ (record { sfits = f }) ∙ e
 

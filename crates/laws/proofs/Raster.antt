@@ -1,5 +1,6 @@
--- Visits in any order, over any steps and any relation of dependence: a ready step that is made last comes to the same as in its place of the
--- raster order (insertion), and while one is not marked, one that is not marked is ready (progress). Assumes nothing.
+-- Visits in any order, over any steps and any relation of dependence: a ready step that is made last comes to
+-- the same as in its place of the raster order (insertion), and while one is not marked, one that is not
+-- marked is ready (progress). Assumes nothing.
 use mathlib.Core.Path.{_≡_, refl, sym, ap, subst, _∙_}
 use mathlib.Core.Logic.{_≢_, _⊎_, inl, inr}
 use mathlib.Core.Bool.{Bool, cond}

@@ -1,4 +1,5 @@
--- Laws of tests over numbers: those of a loop that gathers them (start, a turn, the end), of one that leaves early, and what an answer says. Assumes nothing.
+-- Laws of tests over numbers: those of a loop that gathers them (start, a turn, the end), of one that leaves
+-- early, and what an answer says. Assumes nothing.
 use Prim.Native.Nat.{ℕ, zero, suc, _+_, _<_, _≤_}
 use mathlib.Core.Path.{_≡_, refl, sym, ap, _∙_}
 use mathlib.Core.Bool.{Bool, true, false, not, _&&_, _||_}

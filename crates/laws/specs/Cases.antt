@@ -1,5 +1,5 @@
--- Apart: no promise rests on it. Worked cases of a paper: what the definitions give, and what the paper says. Every
--- crate lists its own; lists of several crates are joined by ++.
+-- Apart: no promise rests on it. Worked cases of a paper: what the definitions give, and what the paper says.
+-- Every crate lists its own; lists of several crates are joined by ++.
 use Prim.Native.Nat.{ℕ}
 use mathlib.Core.Path.{_≡_}
 use mathlib.Core.List.{List, [], _∷_}

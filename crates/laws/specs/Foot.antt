@@ -1,8 +1,10 @@
--- Apart: no promise rests on it. Which samples filtering a macroblock can touch, in a picture W macroblocks wide.
+-- Apart: no promise rests on it. Which samples filtering a macroblock can touch, in a picture W macroblocks
+-- wide.
 use Prim.Native.Nat.{ℕ, _+_, _*_, _/_, _%_}
 use mathlib.Core.Path.{_≡_}
 
--- (bx, by) is the macroblock (x, y), its left or its upper one: those whose samples filtering (x, y) can touch
+-- (bx, by) is the macroblock (x, y), its left or its upper one: those whose samples filtering (x, y) can
+-- touch
 pub data Touch (x y bx by : ℕ) : Type 0 where
   own : bx ≡ x → by ≡ y → Touch x y bx by
   left : bx + 1 ≡ x → by ≡ y → Touch x y bx by

@@ -1,5 +1,5 @@
--- Apart: no promise rests on it. Locality: what a function on planes reads and writes lies in a footprint, a set F
--- of places.
+-- Apart: no promise rests on it. Locality: what a function on planes reads and writes lies in a footprint, a
+-- set F of places.
 use Prim.Native.Nat.{ℕ}
 use mathlib.Core.Path.{_≡_}
 use mathlib.Core.List.{List, [], _∷_, List·Memᴰ}
@@ -19,8 +19,8 @@ Among ps p = List·Memᴰ p ps
 abbrev pub Agree : (ℕ → Type 0) → Plane → Plane → Type 0
 Agree F s t = (p : ℕ) → F p → getD s p 0 ≡ getD t p 0
 
--- f keeps a plane's length, leaves every sample outside F as it is, and what it makes of the samples inside depends
--- on those alone
+-- f keeps a plane's length, leaves every sample outside F as it is, and what it makes of the samples inside
+-- depends on those alone
 pub record Local (F : ℕ → Type 0) (f : Plane → Plane) : Type 0 where
   pub len : (s : Plane) → length (f s) ≡ length s
   pub out : (s : Plane) (p : ℕ) → (F p → ⊥) → getD (f s) p 0 ≡ getD s p 0

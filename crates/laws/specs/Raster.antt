@@ -1,5 +1,5 @@
--- Steps in raster order, and marks that say which of them have been made: demand 3. A step is any function on any
--- state.
+-- Steps in raster order, and marks that say which of them have been made: demand 3. A step is any function on
+-- any state.
 use Prim.Native.Nat.{ℕ}
 use mathlib.Core.Path.{_≡_}
 use mathlib.Core.Bool.{cond}

@@ -1,4 +1,5 @@
--- Numbered refusals: checks in the order in which they are made, each a number and whether it applies. The first that applies is the answer; 0 where none does.
+-- Numbered refusals: checks in the order in which they are made, each a number and whether it applies. The
+-- first that applies is the answer; 0 where none does.
 use Prim.Native.Nat.{ℕ}
 use mathlib.Core.Bool.{Bool, cond}
 use mathlib.Core.List.{List, [], _∷_}

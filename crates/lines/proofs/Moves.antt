@@ -1,5 +1,6 @@
--- How far a line moves at strengths 1 to 3, at any depth: luma's p0 and q0 by at most tC0 + 2, p1 and q1 by at most tC0, p2 and q2 not at all (p3 and q3 are
--- never stored); chroma's p0 and q0 by at most tC0 + 1. Assumes nothing.
+-- How far a line moves at strengths 1 to 3, at any depth: luma's p0 and q0 by at most tC0 + 2, p1 and q1 by
+-- at most tC0, p2 and q2 not at all (p3 and q3 are never stored); chroma's p0 and q0 by at most tC0 + 1.
+-- Assumes nothing.
 use mathlib.Core.Path.{_≡_, refl}
 use mathlib.Core.Bool.{Bool, true, false, cond}
 use Prim.Native.Nat.{ℕ, _+_, _-_, _≤_, _<_}

@@ -1,4 +1,5 @@
--- A line of a plane: what a caller may know of it without its formula. All are instances of the laws of places and of local functions. Assumes nothing.
+-- A line of a plane: what a caller may know of it without its formula. All are instances of the laws of
+-- places and of local functions. Assumes nothing.
 use mathlib.Core.Path.{_≡_, _∙_}
 use Prim.Native.Nat.{ℕ, _+_, _*_, _<_}
 use lib.Dec.{lit≤}

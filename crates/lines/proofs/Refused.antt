@@ -1,4 +1,5 @@
--- Wrong rules that look right. Each is written out and shown to come to something else than the promise on a small input. Assumes nothing.
+-- Wrong rules that look right. Each is written out and shown to come to something else than the promise on a
+-- small input. Assumes nothing.
 use mathlib.Core.Path.{_≡_, ap}
 use mathlib.Core.Bool.{Bool, true, false, cond, _&&_}
 use Prim.Native.Nat.{ℕ, _+_, _-_}

@@ -1,4 +1,5 @@
--- How far a filter at strengths 1 to 3 moves a sample, and that p1 and q1 stay samples with no Clip1. Assumes nothing.
+-- How far a filter at strengths 1 to 3 moves a sample, and that p1 and q1 stay samples with no Clip1. Assumes
+-- nothing.
 use mathlib.Core.Path.{_≡_, refl, sym, ap, _∙_}
 use mathlib.Core.Bool.{Bool, true, false, cond}
 use mathlib.Core.Logic.{_⊎_, ⊎-elim}

@@ -1,4 +1,5 @@
--- A line by its strength: which rule each strength takes, and when nothing is to do. Luma and chroma side by side. Assumes nothing.
+-- A line by its strength: which rule each strength takes, and when nothing is to do. Luma and chroma side by
+-- side. Assumes nothing.
 use mathlib.Core.Path.{_≡_, sym, ap, _∙_}
 use mathlib.Core.Bool.{Bool, true, false, cond, _&&_}
 use mathlib.Core.Logic.{_⊎_, inl, inr}

@@ -1,4 +1,5 @@
--- Samples stay samples: a line with none above `top` is filtered to one with none above it, at any depth. Assumes nothing.
+-- Samples stay samples: a line with none above `top` is filtered to one with none above it, at any depth.
+-- Assumes nothing.
 use mathlib.Core.Bool.{Bool, _&&_}
 use mathlib.Core.List.{List, [], _∷_}
 use Prim.Native.Nat.{ℕ, _+_, _/_, _≤_}

@@ -1,4 +1,5 @@
-// What an edge is filtered with: QP averages, table indexes, thresholds. QPs are i16 and offsets i32, so that every value that these types have is answered.
+// What an edge is filtered with: QP averages, table indexes, thresholds. QPs are i16 and offsets i32, so that
+// every value that these types have is answered.
 ghost use mathlib.Core.Path.{_≡_};
 ghost use Prim.Native.Nat.{_<_};
 ghost use lib.IntN.{pos};

@@ -1,5 +1,5 @@
-// A luma line on values: p3 p2 p1 p0 | q0 q1 q2 q3 in, the six samples that can change out. (Eight bytes in one struct would travel as a machine word and be
-// taken apart by shifts.)
+// A luma line on values: p3 p2 p1 p0 | q0 q1 q2 q3 in, the six samples that can change out. (Eight bytes in
+// one struct would travel as a machine word and be taken apart by shifts.)
 ghost use mathlib.Core.Path.{_≡_};
 ghost use Prim.Native.Nat.{_+_, _*_, _/_};
 ghost use Rattle.lines.specs.Luma.{line, nudgeOf, innerOf, lumaNormal, strongSide, lumaStrong, normalLine, strongLine};

@@ -1,4 +1,5 @@
-// A line of a plane, or of a block that is lent as one: read, filtered, stored. `at` is the place of its first sample and `step` the way to the next.
+// A line of a plane, or of a block that is lent as one: read, filtered, stored. `at` is the place of its
+// first sample and `step` the way to the next.
 ghost use mathlib.Core.Path.{_≡_};
 ghost use Prim.Native.Nat.{_+_, _*_, _<_};
 ghost use lib.ListN.{length};

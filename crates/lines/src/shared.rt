@@ -1,4 +1,5 @@
-// What luma and chroma lines share. Samples are u8 and sums i16, and tests are joined by `&`, so that a loop over 16 lines becomes vector code.
+// What luma and chroma lines share. Samples are u8 and sums i16, and tests are joined by `&`, so that a loop
+// over 16 lines becomes vector code.
 ghost use mathlib.Core.Path.{_≡_};
 ghost use Prim.Native.Nat.{_+_, _*_, _/_};
 ghost use lib.Dec.{ltb};

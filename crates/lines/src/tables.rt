@@ -1,5 +1,5 @@
-// The tables, end to end in one array: alpha at 0, beta at 52, tC0 at 104, QPC at 260. A caller makes it once and lends it down, since the compiler
-// builds a constant array anew wherever it is used.
+// The tables, end to end in one array: alpha at 0, beta at 52, tC0 at 104, QPC at 260. A caller makes it once
+// and lends it down, since the compiler builds a constant array anew wherever it is used.
 ghost use mathlib.Core.Path.{_≡_};
 ghost use Prim.Native.Nat.{_<_, _-_, _≤_};
 ghost use lib.ListN.{getD};

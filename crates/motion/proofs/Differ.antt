@@ -1,4 +1,5 @@
--- The comparison by the number of used references: what it comes to with none, one and two on each side. Assumes nothing.
+-- The comparison by the number of used references: what it comes to with none, one and two on each side.
+-- Assumes nothing.
 use mathlib.Core.Path.{_≡_, refl, sym, subst}
 use mathlib.Core.Bool.{Bool, true, false, not, _||_, and-true, or-self, or-true}
 use mathlib.Core.List.{List, [], _∷_, reverse}
@@ -44,7 +45,8 @@ paired-set v p q w t = ⊎-elim (λ h. by-order q h (w .0)) (λ h. by-order (rev
     by-order : (r : List Motion) → T (inOrder v p r) → T (sameSet (references r) (references q)) → T (sameSet (references p) (references q))
     by-order r h u = subst (λ (k : List ℤ). T (sameSet k (references q))) (sym (mates-in-order v p r h)) u
 
--- ---- so with equal numbers the pairings decide: a test that passes only where another does makes that one needless
+-- ---- so with equal numbers the pairings decide: a test that passes only where another does makes that one
+-- needless
 tells : (s t : Bool) → (T t → T s) → not t ≡ (not s || not t)
 tells true t f = refl
 tells false true f = absurd (f tt)

@@ -1,4 +1,5 @@
--- The far test: what the wrapped numbers say of the difference of the components, once over the most that is near. Assumes nothing.
+-- The far test: what the wrapped numbers say of the difference of the components, once over the most that is
+-- near. Assumes nothing.
 use mathlib.Core.Path.{_≡_, refl, sym, ap, _∙_}
 use mathlib.Core.Bool.{false, or-false}
 use Prim.Native.Nat.{ℕ, zero, suc, _^_, _<_, zero-le}

@@ -1,11 +1,13 @@
-// The comparison of two blocks' motion, and the strength between two inter blocks (ITU-T H.264, clause 8.7.2.1).
-// `vertical` is the most by which near vectors differ vertically: 3 in frames, 1 in fields. Horizontally it is always 3.
+// The comparison of two blocks' motion, and the strength between two inter blocks (ITU-T H.264, clause
+// 8.7.2.1). `vertical` is the most by which near vectors differ vertically: 3 in frames, 1 in fields.
+// Horizontally it is always 3.
 ghost use mathlib.Core.Path.{_≡_};
 ghost use Rattle.motion.specs.Motion.{first, second, isUsed, used, mate, paired, differ, interStrength, equal, sameMotion};
 ghost use Rattle.motion.specs.Listed.{both, Listed};
 use crate::vectors::far;
 
-// A 4x4 block: inter-coded or not, with coefficients or not, and of each list a reference, below 0 for none, and a vector.
+// A 4x4 block: inter-coded or not, with coefficients or not, and of each list a reference, below 0 for none,
+// and a vector.
 pub struct Blk {
     pub inter: bool,
     pub nz: bool,

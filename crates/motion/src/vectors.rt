@@ -11,7 +11,8 @@ fn raised(c: i16) -> u32
     ((c as i32) + 32768) as u32
 }
 
-// Far: the difference, over whole numbers, is below -most or above most. At 3 the test is 7 <= d + 3: from -3 to 3 the sum is 0 to 6.
+// Far: the difference, over whole numbers, is below -most or above most. At 3 the test is 7 <= d + 3: from -3
+// to 3 the sum is 0 to 6.
 pub fn far(most: u8, a: i16, b: i16) -> bool
     ensures { λ r. ⌜ r ≡ outside most (a -ℤ b) ⌝ }
 {

@@ -76,8 +76,8 @@ rowChecks z a b o p l =
     rowNumbers z a b o (length (p .y)) (length (p .u)) (length (p .v)) (length (l .strengths)) (length (l .qps)) (length (l .t8s))
     ++ rowValues (z .w) a b l
 
--- one grey macroblock with strengths 0 and QP 30 gets 0; with QP 52 it gets 8, and with strengths 5 too, still 8
--- (proofs/Examples)
+-- one grey macroblock with strengths 0 and QP 30 gets 0; with QP 52 it gets 8, and with strengths 5 too,
+-- still 8 (proofs/Examples)
 unfoldable pub rowAnswer : Size → ℕ → ℕ → Offsets → Planes → Lent → ℕ
 rowAnswer z a b o p l = refusal (rowChecks z a b o p l)
 

@@ -31,7 +31,8 @@ pub fn bad_offsets(o: Offsets) -> bool
     ((a < -12) | (12 < a)) | ((b < -12) | (12 < b)) | ((c < -12) | (12 < c))
 }
 
-// Checks 7, 8, 9: an entry from a to b - 1 is above `top`. All are looked at, which costs less than leaving early.
+// Checks 7, 8, 9: an entry from a to b - 1 is above `top`. All are looked at, which costs less than leaving
+// early.
 pub fn any_over(s: &[u8], a: usize, b: usize, top: u8) -> bool
     requires { ⌜ (a ≤ b) × (b ≤ length (now s)) ⌝ }
     ensures { λ r. ⌜ r ≡ over top a b (now (s .entry)) ⌝ }

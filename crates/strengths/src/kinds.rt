@@ -32,7 +32,8 @@ pub struct Plain {
     pub t8: bool,
 }
 
-// Whether a kind is true, by what the blocks show: the first is inter, all have one motion, some has coefficients.
+// Whether a kind is true, by what the blocks show: the first is inter, all have one motion, some has
+// coefficients.
 pub fn kind_holds(kind: MbKind, first: bool, same: bool, coded: bool) -> bool
     ensures { λ r. ⌜ r ≡ kindBy kind first same coded ⌝ }
 {

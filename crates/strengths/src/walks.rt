@@ -1,5 +1,5 @@
-// Walks over four places of a grid, or over the 4 by 4 blocks of a macroblock. Bytes are gathered without leaving early, which costs least; the search for blocks that
-// disagree is left at the first one.
+// Walks over four places of a grid, or over the 4 by 4 blocks of a macroblock. Bytes are gathered without
+// leaving early, which costs least; the search for blocks that disagree is left at the first one.
 ghost use mathlib.Core.Path.{_≡_};
 ghost use mathlib.Core.Bool.{true, not, _&&_};
 ghost use Prim.Native.Nat.{_+_, _-_, _*_, _<_, _≤_};

@@ -45,7 +45,8 @@ module _ (W H : ℕ) {S : Type 0} (step : ℕ → S → S) (early : State S → 
     pub own-mark : (x y : ℕ) → call now (x, y) .0 ≡ 0 → call now (x, y) .1 .1 ≡ set (now .1) (y * W + x) 1
     pub refused : (r : At) → call now r .0 ≢ 0 → call now r .1 ≡ now
     -- "A visit that passes all earlier checks is refused as not ready exactly when an existing left, upper or
-    -- upper right neighbour is unvisited", and else done; that it was visited already is one of the earlier checks
+    -- upper right neighbour is unvisited", and else done; that it was visited already is one of the earlier
+    -- checks
     pub not-ready : (x y : ℕ) → early now (x, y) ≡ 0 → Unvisited W (now .1) x y → (call now (x, y) .0 ≡ 14) ↔ Waits W H (now .1) x y
     pub done : (x y : ℕ) → early now (x, y) ≡ 0 → Unvisited W (now .1) x y → (Waits W H (now .1) x y → ⊥) → call now (x, y) .0 ≡ 0
     -- "After each call the planes hold what demand 2's rules give for just the visited macroblocks in raster

@@ -1,3 +1,4 @@
-// Visits: macroblocks filtered in the order in which they arrive, each once its left, upper and upper right neighbours have been.
+// Visits: macroblocks filtered in the order in which they arrive, each once its left, upper and upper right
+// neighbours have been.
 pub mod checks;
 pub mod visits;

@@ -41,8 +41,8 @@ const WORDS: [(Answer, &str); 15] = [
 ];
 
 impl Answer {
-    /// The answer with document 01's number `n`. The archive is proved to give no other; one would mean that a
-    /// different archive was linked, and there is no going on from that.
+    /// The answer with document 01's number `n`. The archive is proved to give no other; one would mean that
+    /// a different archive was linked, and there is no going on from that.
     pub fn of(n: u32) -> Answer {
         match WORDS.get(n as usize) {
             Some(&(answer, _)) => answer,

@@ -1,9 +1,11 @@
 //! The safe binding over the proved deblocking filter.
 //!
-//! `wire` has the six calls as the archive has them, with slices in the place of pointers and lengths. This page gives
-//! them types: a `Size`, `Offsets`, a `Kind`, and an `Answer` in the place of document 01's numbers.
+//! `wire` has the six calls as the archive has them, with slices in the place of pointers and lengths. This
+//! page gives them types: a `Size`, `Offsets`, a `Kind`, and an `Answer` in the place of document 01's
+//! numbers.
 //!
-//! A refused call has changed nothing that was lent to it. No call allocates, blocks, or keeps what it was lent.
+//! A refused call has changed nothing that was lent to it. No call allocates, blocks, or keeps what it was
+//! lent.
 
 mod answer;
 // One line a grid, as in the C declarations, is easier to check by eye.
@@ -47,7 +49,8 @@ pub enum Kind {
     Inter = 3,
 }
 
-/// The 4x4 grids of a picture, in rows of 4*W blocks. The two list 1 grids may both be empty: no block uses list 1.
+/// The 4x4 grids of a picture, in rows of 4*W blocks. The two list 1 grids may both be empty: no block uses
+/// list 1.
 #[derive(Clone, Copy)]
 pub struct Grids<'a> {
     /// 0 intra, 1 inter.
@@ -114,7 +117,8 @@ pub fn rows(size: Size, rows: std::ops::Range<usize>, o: Offsets, planes: Planes
     Answer::of(wire::rows(size.w, size.h, rows.start, rows.end, [o.a, o.b, o.chroma], planes, stored))
 }
 
-/// Filters one macroblock, if it is ready, and sets its mark. `marks` is one byte a macroblock, all 0 at the start.
+/// Filters one macroblock, if it is ready, and sets its mark. `marks` is one byte a macroblock, all 0 at the
+/// start.
 pub fn visit(size: Size, at: Place, o: Offsets, planes: Planes, stored: Stored, marks: &mut [u8]) -> Answer {
     Answer::of(wire::visit(size.w, size.h, at.x, at.y, [o.a, o.b, o.chroma], planes, stored, marks))
 }

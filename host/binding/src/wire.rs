@@ -1,10 +1,10 @@
 //! The six calls as the archive has them, over slices: numbers in, document 01's number out.
 //!
-//! What a caller in another language must keep, and nothing else is asked: each pointer is valid for its length in
-//! elements, for reading, and where the parameter is not const for writing; it is aligned, and not null even where the
-//! length is 0; nobody else writes the memory during the call; and what a call writes overlaps with nothing else that
-//! is lent to it. Every value of every number is answered. Here Rust's borrows ensure all of it: a slice is valid,
-//! and `&mut` shares with nobody.
+//! What a caller in another language must keep, and nothing else is asked: each pointer is valid for its
+//! length in elements, for reading, and where the parameter is not const for writing; it is aligned, and not
+//! null even where the length is 0; nobody else writes the memory during the call; and what a call writes
+//! overlaps with nothing else that is lent to it. Every value of every number is answered. Here Rust's
+//! borrows ensure all of it: a slice is valid, and `&mut` shares with nobody.
 
 // The arguments are those of the C calls; structs for them are one page up.
 #![allow(clippy::too_many_arguments)]
@@ -55,7 +55,8 @@ mod c {
     }
 }
 
-/// Strengths of macroblock (x, y) by kind: 0 intra, 1 skip, 2 inter uniform, 3 inter; any other byte is refused.
+/// Strengths of macroblock (x, y) by kind: 0 intra, 1 skip, 2 inter uniform, 3 inter; any other byte is
+/// refused.
 pub fn strengths_kind(w: usize, h: usize, x: usize, y: usize, kind: u8, g: Grids, strengths: &mut [u8]) -> u32 {
     // SAFETY: every pointer and length is a slice's, and what is written is borrowed by nobody else.
     unsafe {

@@ -1,10 +1,10 @@
 //! The clock of request [13]: whole pictures of 720 by 576 through the archive and through the Rust original.
 //!
-//! Both are optimised builds. Each picture is filtered in every way, one after the other, in turn first; its planes
-//! are copied and strengths converted before the clock starts; the clock is the thread's CPU time, which other programs
-//! on the machine do not add to. What counts is the ratio of two times on the SAME picture, and its median over all
-//! pictures: a machine whose pace drifts during the run moves both times of a picture and hardly their ratio. The
-//! filtered planes are compared as well.
+//! Both are optimised builds. Each picture is filtered in every way, one after the other, in turn first; its
+//! planes are copied and strengths converted before the clock starts; the clock is the thread's CPU time,
+//! which other programs on the machine do not add to. What counts is the ratio of two times on the SAME
+//! picture, and its median over all pictures: a machine whose pace drifts during the run moves both times of
+//! a picture and hardly their ratio. The filtered planes are compared as well.
 
 mod cpu_time;
 mod picture;
@@ -15,8 +15,9 @@ use picture::{Picture, H, W};
 use std::process::ExitCode;
 use ways::Way;
 
-/// What is timed, and the most that the whole-picture call may take of the original's time: a tenth to a sixth above
-/// what docs/SPEED.md has for the slower kind of machine, and far below the 1.5 that request [13] allows.
+/// What is timed, and the most that the whole-picture call may take of the original's time: a tenth to a
+/// sixth above what docs/SPEED.md has for the slower kind of machine, and far below the 1.5 that request [13]
+/// allows.
 const SUBJECTS: [Subject; 4] = [
     Subject { name: "intra", content: Content::Intra, look: CODED, bound: 0.30 },
     Subject { name: "mixed", content: Content::Mixed, look: CODED, bound: 0.34 },
@@ -27,8 +28,8 @@ const SUBJECTS: [Subject; 4] = [
 /// The most that visits to a whole picture may take of the time of the original's whole-picture call.
 const VISITS_BOUND: f64 = 1.0;
 
-/// Levels of 4x4 blocks up to 4 off either way, as quantising leaves them; and noise, of which no branch can foresee
-/// which lines pass the thresholds. Each picture gets a base of its own.
+/// Levels of 4x4 blocks up to 4 off either way, as quantising leaves them; and noise, of which no branch can
+/// foresee which lines pass the thresholds. Each picture gets a base of its own.
 const CODED: Texture = Texture { step: 4, noise: 1, base: 0 };
 const NOISY: Texture = Texture { step: 10, noise: 20, base: 0 };
 

@@ -1,7 +1,7 @@
 //! What the Rust original does where the archive refuses, and the other differences of docs/DIFFERENCES.md.
 //!
-//! A row of that page and its check stand together in one entry of a table here, so that a row that is not true fails.
-//! The rows are printed as the page has them, and host/run compares the two.
+//! A row of that page and its check stand together in one entry of a table here, so that a row that is not
+//! true fails. The rows are printed as the page has them, and host/run compares the two.
 
 mod lengths;
 mod rows;
@@ -66,8 +66,8 @@ impl Row {
         format!("| {} | {} | {rust} |", self.no, self.input)
     }
 
-    /// The archive refuses each of the row's inputs, which is one step from an input that is taken, and of each the
-    /// claims are true.
+    /// The archive refuses each of the row's inputs, which is one step from an input that is taken, and of
+    /// each the claims are true.
     fn check(&self, archive: &Archive) -> Result<(), String> {
         let base = (self.base)();
         if archive.call(&mut base.clone()) != 0 {
@@ -82,7 +82,8 @@ impl Row {
         Ok(())
     }
 
-    /// Three times, so that each way to lend memory comes up: between guards, and against a fence on either side.
+    /// Three times, so that each way to lend memory comes up: between guards, and against a fence on either
+    /// side.
     fn refused(&self, archive: &Archive, q: &Request) -> Result<(), String> {
         if table::answer(q) != self.no {
             return Err(format!("the rules answer {}", table::answer(q)));
@@ -128,8 +129,8 @@ pub struct Seen {
     pub ended: bool,
 }
 
-/// Lends the request to the original as it is. A panic is an outcome, and is not printed; one in the conversion to the
-/// original's types is none, since nobody could have made that call: it ends the program.
+/// Lends the request to the original as it is. A panic is an outcome, and is not printed; one in the
+/// conversion to the original's types is none, since nobody could have made that call: it ends the program.
 pub fn original(q: &Request) -> Seen {
     assert!(q.call != Call::Visit && q.kind < 4, "the original has no such call");
     let mut after = q.clone();
@@ -170,8 +171,9 @@ impl Seen {
         self.ended && self.own.is_none() && self.after == self.before
     }
 
-    /// It ended as the changed input does, which is one that we take: with these strengths, or these samples. A sample
-    /// too many stays. An equation between two calls that filter nothing would say nothing, and does not count.
+    /// It ended as the changed input does, which is one that we take: with these strengths, or these samples.
+    /// A sample too many stays. An equation between two calls that filter nothing would say nothing, and does
+    /// not count.
     pub fn as_with(&self, change: fn(&mut Request)) -> bool {
         let filters = self.own.is_some() || self.after.luma != self.before.luma;
         self.ended && filters && self.luma_as(change) && self.chroma_as(change)
@@ -211,9 +213,9 @@ fn same(was: &[u8], is: &[u8], other: &[u8]) -> bool {
     is[..both] == other[..both] && is[both..] == was[both..]
 }
 
-/// A whole picture: stripes of four columns, 60 in one, and in the next one 60 in the top row of a macroblock and 12
-/// more in each row below, so that the indices that a row tells apart filter it otherwise. Strength 3 on vertical edge
-/// 2 of each macroblock, which luma and chroma read; QP 30, offsets 0, no 8x8 flags.
+/// A whole picture: stripes of four columns, 60 in one, and in the next one 60 in the top row of a macroblock
+/// and 12 more in each row below, so that the indices that a row tells apart filter it otherwise. Strength 3
+/// on vertical edge 2 of each macroblock, which luma and chroma read; QP 30, offsets 0, no 8x8 flags.
 pub fn picture(w: usize, h: usize) -> Request {
     let plane = |side: usize| -> Vec<u8> {
         let sample = |(x, y): (usize, usize)| if x / 4 % 2 == 0 { 60 } else { 60 + 12 * (y % side) as u8 };
@@ -236,7 +238,8 @@ pub fn strengths(outer: u8, inner: u8) -> [u8; 32] {
     std::array::from_fn(|i| if i / 4 % 4 == 0 { outer } else { inner })
 }
 
-/// The strengths of the last macroblock of `w` by `h` inter ones: counts 0, references 0, vectors 0, no list 1.
+/// The strengths of the last macroblock of `w` by `h` inter ones: counts 0, references 0, vectors 0, no list
+/// 1.
 pub fn inter(call: Call, w: usize, h: usize) -> Request {
     let n = 16 * w * h;
     let mut q = Request::new(call, w, h);
@@ -259,8 +262,8 @@ pub fn intra(call: Call, w: usize, h: usize) -> Request {
 mod tests {
     use super::*;
 
-    /// A wrong number, an input that is not one step from a good one, an untrue claim, and one between two calls that
-    /// filter nothing.
+    /// A wrong number, an input that is not one step from a good one, an untrue claim, and one between two
+    /// calls that filter nothing.
     #[test]
     fn untrue_rows_fail() {
         let archive = Archive::new();
@@ -287,7 +290,8 @@ mod tests {
         assert!(seen.ended && was.luma != is.luma && was.u != is.u && was.v != is.v);
     }
 
-    /// Here in a debug build, since tests are one: the original's assertions are in force, and its sums do not wrap.
+    /// Here in a debug build, since tests are one: the original's assertions are in force, and its sums do
+    /// not wrap.
     #[test]
     fn every_row_is_true() {
         let archive = Archive::new();

@@ -1,4 +1,5 @@
-//! What a call must answer and leave behind: the number by document 01's table, the rest by the Rust original.
+//! What a call must answer and leave behind: the number by document 01's table, the rest by the Rust
+//! original.
 
 use crate::request::{Call, Request};
 use crate::table;
@@ -49,8 +50,8 @@ fn visit(r: &mut Request) {
     r.marks[at] = 1;
 }
 
-/// The planes of `r` after just the marked macroblocks in raster order: demand 3's picture. `r` holds the planes as
-/// they were before the first visit.
+/// The planes of `r` after just the marked macroblocks in raster order: demand 3's picture. `r` holds the
+/// planes as they were before the first visit.
 pub fn marked_in_raster_order(r: &mut Request, marks: &[u8]) {
     let mut stored = Stored::blank(r.w, r.h, &r.qps, &r.t8s);
     for (m, &mark) in marks.iter().enumerate() {

@@ -25,8 +25,8 @@ pub fn in_round(seed: u64) {
     SEED.store(seed, Relaxed);
 }
 
-/// Printing in a handler is not safe in general; here the fault came from foreign code that holds no lock of ours, and
-/// the program ends right after it.
+/// Printing in a handler is not safe in general; here the fault came from foreign code that holds no lock of
+/// ours, and the program ends right after it.
 extern "C" fn faulted(number: i32) {
     match SEED.load(Relaxed) {
         0 => println!("FAULT (signal {number}) in the small cases"),

@@ -1,4 +1,5 @@
-//! Memory between pages that nobody may touch: a byte read or written beside a buffer ends the program at once.
+//! Memory between pages that nobody may touch: a byte read or written beside a buffer ends the program at
+//! once.
 //!
 //! Guard elements show what is written beside a buffer; this shows what is read there too.
 
@@ -53,8 +54,9 @@ impl Field {
             Some(Side::End) if size <= ROOM => ROOM - size,
             _ => return Loan { own, copy: None },
         };
-        // SAFETY: the copy lies in the room, aligned since the room and all sizes are multiples of the element's size;
-        // it is borrowed from `self` as long as the loan lives; integers have no invalid bytes.
+        // SAFETY: the copy lies in the room, aligned since the room and all sizes are multiples of the
+        // element's size; it is borrowed from `self` as long as the loan lives; integers have no invalid
+        // bytes.
         let copy = unsafe { std::slice::from_raw_parts_mut(self.room.add(from).cast::<T>(), own.len()) };
         copy.copy_from_slice(own);
         Loan { own, copy: Some(copy) }

@@ -1,4 +1,5 @@
-//! Random requests to which no refusal applies (a visit or an untrue kind may still be refused, as the table says).
+//! Random requests to which no refusal applies (a visit or an untrue kind may still be refused, as the table
+//! says).
 
 use crate::request::{Call, Request};
 use inputs::{strengths, texture, Content, Rng, Texture};

@@ -1,6 +1,7 @@
 //! The rules of document 01 as a plain program, which can be told to make one mistake.
 //!
-//! Without a mistake it is a second opinion beside the Rust original: `judge mutants` first asks that the two agree.
+//! Without a mistake it is a second opinion beside the Rust original: `judge mutants` first asks that the two
+//! agree.
 
 use crate::mistakes::Mistake;
 use crate::request::{Call, Request};

@@ -1,4 +1,5 @@
-//! The original's answers as recordings (crates/recordings/FORMAT.md), end to end: pictures of every content and grids of every kind, small ones, always the same.
+//! The original's answers as recordings (crates/recordings/FORMAT.md), end to end: pictures of every content
+//! and grids of every kind, small ones, always the same.
 
 use crate::expect::expect;
 use crate::make;

@@ -16,7 +16,8 @@ pub enum Call {
 pub const CALLS: [Call; 6] = [Call::Kind, Call::Flags, Call::Flagless, Call::Frame, Call::Rows, Call::Visit];
 
 impl Call {
-    /// Whether the call is lent the 4x4 grids and writes strengths; the others are lent planes and read strengths.
+    /// Whether the call is lent the 4x4 grids and writes strengths; the others are lent planes and read
+    /// strengths.
     pub fn is_strengths(self) -> bool {
         matches!(self, Call::Kind | Call::Flags | Call::Flagless)
     }
@@ -140,7 +141,8 @@ impl Lent for i16 {
     const GUARD: i16 = -0x5A5B;
 }
 
-/// Lent memory between guards. Comparing two buffers compares their guards too, so a byte written beside a buffer shows.
+/// Lent memory between guards. Comparing two buffers compares their guards too, so a byte written beside a
+/// buffer shows.
 #[derive(Clone, PartialEq)]
 pub struct Buffer<T> {
     all: Vec<T>,

@@ -1,4 +1,5 @@
-//! From a case that fails to one that a person can read: smaller sizes, then plainer contents, as long as it fails.
+//! From a case that fails to one that a person can read: smaller sizes, then plainer contents, as long as it
+//! fails.
 
 use crate::request::{Buffer, Call, Lent, Request};
 use std::fmt::{Debug, Write};

@@ -48,7 +48,8 @@ fn blocky(call: Call, w: usize, h: usize, seed: u64) -> Request {
     q
 }
 
-/// Each of the 32 segments alone with each strength, and all with the same; with and without 8x8; in every place.
+/// Each of the 32 segments alone with each strength, and all with the same; with and without 8x8; in every
+/// place.
 fn every_strength_on_every_segment(s: &mut Session, thin: &mut Thin) -> Outcome {
     for (w, h) in SIZES {
         for (m, strength, flag, qp) in product([w * h, 5, 3, 3]) {
@@ -196,7 +197,8 @@ fn ask_in_every_way(s: &mut Session, q: &mut Request) -> Outcome {
     Ok(())
 }
 
-/// 0, 1 intra; 2 flat; 3 flat, another picture; 4 uniform with a coefficient; 5 halves; 6 both lists; 7 a lone far block.
+/// 0, 1 intra; 2 flat; 3 flat, another picture; 4 uniform with a coefficient; 5 halves; 6 both lists; 7 a
+/// lone far block.
 fn kinds_picture(w: usize, h: usize, kinds: &[usize]) -> Request {
     let n = 16 * w * h;
     let mut q = Request::new(Call::Kind, w, h);

@@ -1,7 +1,8 @@
-//! Document 01's table "Numbers a call returns", written down on its own: no line of it comes from the archive.
+//! Document 01's table "Numbers a call returns", written down on its own: no line of it comes from the
+//! archive.
 //!
-//! A check may use what the checks above it have excluded, as in the document. It looks at what the call takes and,
-//! from no. 7 on, at what the call reads.
+//! A check may use what the checks above it have excluded, as in the document. It looks at what the call
+//! takes and, from no. 7 on, at what the call reads.
 
 use crate::request::{Call, Request};
 use std::ops::Range;

@@ -1,4 +1,5 @@
-//! Demand 3: visits in any order, refused ones among them, against the original's picture of just the visited ones.
+//! Demand 3: visits in any order, refused ones among them, against the original's picture of just the visited
+//! ones.
 
 use crate::expect::{expect, marked_in_raster_order};
 use crate::make;
@@ -7,8 +8,8 @@ use crate::session::{Failure, Outcome, Session};
 use crate::table;
 use inputs::Rng;
 
-/// A whole picture by visits. Every answer is compared; the planes are compared after every call of a small picture,
-/// and now and then in a large one.
+/// A whole picture by visits. Every answer is compared; the planes are compared after every call of a small
+/// picture, and now and then in a large one.
 pub fn sequence(s: &mut Session, r: &mut Rng, w: usize, h: usize) -> Outcome {
     let mut before = make::picture(r, Call::Visit, w, h);
     before.marks.fill(0);
@@ -62,7 +63,8 @@ fn explain(s: &mut Session, before: &Request, order: &[(usize, usize)], failure:
     Failure(format!("{failure}\nno single visit is wrong by itself; the order was {order:?}"))
 }
 
-/// An order of visits that marks everything, with visits among them that are refused: not ready, again, outside.
+/// An order of visits that marks everything, with visits among them that are refused: not ready, again,
+/// outside.
 fn arrival(r: &mut Rng, w: usize, h: usize) -> Vec<(usize, usize)> {
     let mut marks = vec![false; w * h];
     let marked = |marks: &[bool], x: usize, y: usize| x >= w || marks[y * w + x];

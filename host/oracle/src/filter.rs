@@ -17,7 +17,8 @@ pub struct Offsets {
     pub chroma: i32,
 }
 
-/// What a picture's filtering reads, in the original's types: converted once, so that a clock need not count it.
+/// What a picture's filtering reads, in the original's types: converted once, so that a clock need not count
+/// it.
 pub struct Stored {
     pub width: usize,
     pub height: usize,
@@ -27,8 +28,8 @@ pub struct Stored {
 }
 
 impl Stored {
-    /// Takes any lengths, as the original does, but for a part of a macroblock's 32 strengths: no type of the original
-    /// holds that, and dropping it here would hide it.
+    /// Takes any lengths, as the original does, but for a part of a macroblock's 32 strengths: no type of the
+    /// original holds that, and dropping it here would hide it.
     pub fn new(width: usize, height: usize, strengths: &[u8], qps: &[u8], t8s: &[u8]) -> Self {
         assert_eq!(strengths.len() % 32, 0, "the original is lent whole macroblocks of strengths");
         Stored {

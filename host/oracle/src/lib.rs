@@ -1,9 +1,9 @@
-//! The Rust original of the filter, scalar, behind functions on plain slices: unchanged for filtering, and for strengths
-//! a copy with one module declared after its text.
+//! The Rust original of the filter, scalar, behind functions on plain slices: unchanged for filtering, and
+//! for strengths a copy with one module declared after its text.
 //!
-//! The first part is the thinnest shim in which its two files compile; nothing in it can change a result. The second
-//! part puts document 01's layouts into the original's types and back. The original has no refusals: outside document
-//! 01's domain it computes something or panics, and `judge differences` shows which.
+//! The first part is the thinnest shim in which its two files compile; nothing in it can change a result. The
+//! second part puts document 01's layouts into the original's types and back. The original has no refusals:
+//! outside document 01's domain it computes something or panics, and `judge differences` shows which.
 
 extern crate alloc;
 

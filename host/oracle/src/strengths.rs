@@ -27,8 +27,8 @@ pub struct Blocks {
 }
 
 impl Blocks {
-    /// Takes any lengths, as the original does, but for half a vector: no type of the original holds that, and dropping
-    /// it here would hide it.
+    /// Takes any lengths, as the original does, but for half a vector: no type of the original holds that,
+    /// and dropping it here would hide it.
     pub fn new(width: usize, g: Grids) -> Self {
         let pairs = |mv: &[i16]| {
             assert_eq!(mv.len() % 2, 0, "the original is lent whole vectors");

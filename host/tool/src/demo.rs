@@ -64,8 +64,8 @@ fn arrivals(before: &Picture, settings: &Settings, right: &Picture) -> bool {
     equal == ORDERS
 }
 
-/// The old release: one macroblock after the other in an order that the library refuses. Each is filtered through the
-/// library as a row in which no other macroblock has any strength.
+/// The old release: one macroblock after the other in an order that the library refuses. Each is filtered
+/// through the library as a row in which no other macroblock has any strength.
 fn old_rule(before: &Picture, settings: &Settings, order: &Order) -> Picture {
     let size = before.size;
     let mut picture = before.clone();

@@ -61,8 +61,9 @@ pub struct Replay {
     pub answers: BTreeMap<Answer, usize>,
 }
 
-/// Visits the macroblocks as they arrive. With `waits`, one that is not ready is kept and visited again as soon as a
-/// neighbour for which it may have waited is done, as the station does; else each is asked for once.
+/// Visits the macroblocks as they arrive. With `waits`, one that is not ready is kept and visited again as
+/// soon as a neighbour for which it may have waited is done, as the station does; else each is asked for
+/// once.
 pub fn replay(before: &Picture, settings: &Settings, order: &[Place], waits: bool) -> Replay {
     let size = before.size;
     let n = size.w * size.h;

@@ -1,4 +1,5 @@
-//! Replays a recording: strengths from its grids, visits in arrival orders, and the recorder's picture beside them.
+//! Replays a recording: strengths from its grids, visits in arrival orders, and the recorder's picture beside
+//! them.
 
 use crate::orders::{self, replay, Order, Replay};
 use crate::picture::{differences, tell};
@@ -75,7 +76,8 @@ fn many(r: &Recording) -> bool {
     equal == SEEDS
 }
 
-/// Compares with the recorder's planes: a macroblock counts once it, its right and its lower neighbour are visited.
+/// Compares with the recorder's planes: a macroblock counts once it, its right and its lower neighbour are
+/// visited.
 fn agrees(r: &Recording, end: &Replay) -> bool {
     let size = r.before.size;
     let marked = |x: usize, y: usize| x >= size.w || y >= size.h || end.marks[y * size.w + x] == 1;

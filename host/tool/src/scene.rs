@@ -22,7 +22,8 @@ pub fn joint() -> (Picture, Settings) {
     (Picture { size: SIZE, y, u, v }, settings)
 }
 
-/// The light on a round wall, the groove of the joint, the crack that leaves it, and the grain of the concrete.
+/// The light on a round wall, the groove of the joint, the crack that leaves it, and the grain of the
+/// concrete.
 fn photograph(w: usize, h: usize) -> Vec<f64> {
     let mut r = Rng::new(11);
     let crack = crack_line(w);
@@ -43,7 +44,8 @@ fn photograph(w: usize, h: usize) -> Vec<f64> {
     samples
 }
 
-/// The crack's line for each column: it wanders, past corners of macroblocks at (80, 32), (96, 48), (112, 48), (144, 64).
+/// The crack's line for each column: it wanders, past corners of macroblocks at (80, 32), (96, 48), (112,
+/// 48), (144, 64).
 fn crack_line(w: usize) -> Vec<f64> {
     let mut r = Rng::new(5);
     let mut wander = 0.0;
@@ -65,8 +67,8 @@ fn bump(d: f64) -> f64 {
     (-d * d).exp()
 }
 
-/// Codes 4x4 blocks coarsely: the mean in steps of `step`, the rest only where it reaches `dead`, and in steps of it.
-/// Gives the samples and, for each block, whether anything but its mean was kept.
+/// Codes 4x4 blocks coarsely: the mean in steps of `step`, the rest only where it reaches `dead`, and in
+/// steps of it. Gives the samples and, for each block, whether anything but its mean was kept.
 fn code(w: usize, sharp: &[f64], step: i32, dead: i32) -> (Vec<u8>, Vec<bool>) {
     let h = sharp.len() / w;
     let mut coded = vec![0; sharp.len()];
@@ -85,7 +87,8 @@ fn code(w: usize, sharp: &[f64], step: i32, dead: i32) -> (Vec<u8>, Vec<bool>) {
     (coded, detail)
 }
 
-/// Macroblocks full of detail are intra, the others move with the crawler; strengths come from the proved call.
+/// Macroblocks full of detail are intra, the others move with the crawler; strengths come from the proved
+/// call.
 fn settings(detail: &[bool]) -> Settings {
     let (w4, n) = (4 * SIZE.w, SIZE.w * SIZE.h);
     let macroblock = |b: usize| b / w4 / 4 * SIZE.w + b % w4 / 4;

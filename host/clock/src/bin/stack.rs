@@ -1,8 +1,8 @@
 //! How much stack each call of the archive touches, and the original's whole-picture call beside it.
 //!
-//! Each runs on a thread of its own whose stack is memory of ours, painted before. Afterwards the lowest byte that is
-//! not the paint tells how deep it went; a thread that calls nothing tells what of that is the thread's own. Twice,
-//! with two paints, since a byte that the call wrote may look like one.
+//! Each runs on a thread of its own whose stack is memory of ours, painted before. Afterwards the lowest byte
+//! that is not the paint tells how deep it went; a thread that calls nothing tells what of that is the
+//! thread's own. Twice, with two paints, since a byte that the call wrote may look like one.
 
 use binding::{Answer, Grids, Kind, Offsets, Place, Planes, Size, Stored};
 use std::ffi::c_void;

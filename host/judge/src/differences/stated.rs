@@ -1,12 +1,13 @@
-//! The differences that are no refusals, from the original or from the standard, each with what can be run of it.
+//! The differences that are no refusals, from the original or from the standard, each with what can be run of
+//! it.
 
 use super::{edge, inter, intra, original, picture, strengths};
 use crate::request::{Call, Request};
 use crate::subject::{Archive, Subject};
 use oracle::{Blocks, Grids, Offsets, Planes, Stored};
 
-/// A row, and whether what it says of the archive and of the original is so. What it says of the standard, of the
-/// original's accelerated build and of the decoder around it cannot be run here.
+/// A row, and whether what it says of the archive and of the original is so. What it says of the standard, of
+/// the original's accelerated build and of the decoder around it cannot be run here.
 pub struct Stated {
     pub what: &'static str,
     pub input: &'static str,
@@ -124,8 +125,8 @@ fn own(archive: &Archive, q: &Request) -> Option<[u8; 32]> {
     both(archive, q)?.strengths[32 * q.at()..][..32].try_into().ok()
 }
 
-/// A lone macroblock at QP 30 with these strengths on luma edge `e` alone, and in each plane `p` on one side of the
-/// edge and `q` on the other.
+/// A lone macroblock at QP 30 with these strengths on luma edge `e` alone, and in each plane `p` on one side
+/// of the edge and `q` on the other.
 fn step(e: usize, strength: u8, (p, q): (u8, u8)) -> Request {
     let plane = |side: usize, at: usize| -> Vec<u8> {
         let across = |i: usize| if e < 4 { i % side } else { i / side };
@@ -148,8 +149,8 @@ fn strong_inside(archive: &Archive) -> bool {
     })
 }
 
-/// Alpha 4 and beta 2: steps of 3 across the edge and of 1 beside it are filtered, steps of 4 and of 2 are not; index
-/// 15 filters nothing.
+/// Alpha 4 and beta 2: steps of 3 across the edge and of 1 beside it are filtered, steps of 4 and of 2 are
+/// not; index 15 filters nothing.
 fn odd_offsets(archive: &Archive) -> bool {
     let filters = |across: u8, beside: u8, offset: i32| {
         let mut q = step(2, 4, (60, 60 + across));
@@ -161,7 +162,8 @@ fn odd_offsets(archive: &Archive) -> bool {
     seen == [Some(true), Some(false), Some(true), Some(false), Some(false)]
 }
 
-/// Alpha is 22 at index 29 and 25 at index 30: a step of 22 is filtered in U and V at chroma offset 1, in neither at 0.
+/// Alpha is 22 at index 29 and 25 at index 30: a step of 22 is filtered in U and V at chroma offset 1, in
+/// neither at 0.
 fn one_chroma_offset(archive: &Archive) -> bool {
     let filters = |across: u8, chroma: i32| {
         let mut q = step(2, 1, (60, 60 + across));
@@ -171,8 +173,8 @@ fn one_chroma_offset(archive: &Archive) -> bool {
     [filters(21, 0), filters(22, 0), filters(22, 1)] == [Some([true; 2]), Some([false; 2]), Some([true; 2])]
 }
 
-/// Alpha is 25 at index 30 and 32 at index 32: a step of 25 on each edge of two macroblocks is filtered everywhere or
-/// nowhere, as the one pair of offsets says.
+/// Alpha is 25 at index 30 and 32 at index 32: a step of 25 on each edge of two macroblocks is filtered
+/// everywhere or nowhere, as the one pair of offsets says.
 fn one_pair_of_offsets(archive: &Archive) -> bool {
     let edges = |across: u8, a: i32| {
         let mut q = picture(2, 1);

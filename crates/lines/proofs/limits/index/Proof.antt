@@ -1,4 +1,5 @@
--- `index`: a sum of two i32 fits an i64, and each return is the case of Clip3 that the tests led to. Assumes nothing.
+-- `index`: a sum of two i32 fits an i64, and each return is the case of Clip3 that the tests led to. Assumes
+-- nothing.
 use mathlib.Core.Path.{_≡_, ap, _∙_}
 use mathlib.Core.Bool.{false}
 use Prim.Native.Nat.{ℕ, _<_}

@@ -1,4 +1,5 @@
--- `thresholds`: each return is the definition's case, by the tables' values that the calls ensure. Assumes nothing.
+-- `thresholds`: each return is the definition's case, by the tables' values that the calls ensure. Assumes
+-- nothing.
 use borrow.Author.Needs.{needs}
 use borrow.Author.Tests.{eq-eqb, ne-eqb}
 use mathlib.Core.Path.{_≡_, sym, ap, _∙_}

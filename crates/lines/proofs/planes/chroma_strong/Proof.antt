@@ -1,4 +1,5 @@
--- `planes::chroma_strong`: the samples that are read are the line, and what comes out is stored. Assumes nothing.
+-- `planes::chroma_strong`: the samples that are read are the line, and what comes out is stored. Assumes
+-- nothing.
 use borrow.Author.Needs.{needs}
 use Rattle.lines.specs.Planes.{chromaAt}
 use Rattle.lines.proofs.planes.chroma_strong.Statement.{statement}

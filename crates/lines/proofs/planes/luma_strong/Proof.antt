@@ -1,4 +1,5 @@
--- `planes::luma_strong`: the samples that are read are the line, and what comes out is stored. Assumes nothing.
+-- `planes::luma_strong`: the samples that are read are the line, and what comes out is stored. Assumes
+-- nothing.
 use borrow.Author.Needs.{needs}
 use Rattle.lines.specs.Planes.{lumaAt}
 use Rattle.lines.proofs.planes.luma_strong.Statement.{statement}

@@ -1,4 +1,5 @@
--- `motion::blocks::bs1_tile` meets its contract: the counts tell the lists, and each case is a law of `Differ`. Assumes nothing.
+-- `motion::blocks::bs1_tile` meets its contract: the counts tell the lists, and each case is a law of
+-- `Differ`. Assumes nothing.
 use native.Mathlib.Omega.{arith}
 use borrow.Author.Needs.{needs}
 use Rattle.motion.specs.Motion.{differ}

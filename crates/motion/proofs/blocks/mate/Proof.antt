@@ -1,4 +1,5 @@
--- `motion::blocks::mate` meets its contract: equal bits are equal references, and `far` tells both differences. Assumes nothing.
+-- `motion::blocks::mate` meets its contract: equal bits are equal references, and `far` tells both
+-- differences. Assumes nothing.
 use mathlib.Core.Path.{_∙_}
 use borrow.Author.Needs.{needs}
 use lib.IntN.{_-ℤ_}

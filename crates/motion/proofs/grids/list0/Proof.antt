@@ -1,4 +1,5 @@
--- `motion::grids::list0` meets its contract: it reads the reference and the vector of block i. Assumes nothing.
+-- `motion::grids::list0` meets its contract: it reads the reference and the vector of block i. Assumes
+-- nothing.
 use borrow.Author.Needs.{needs}
 use mir.Syntax.{w32}
 use Rattle.laws.proofs.Num.{result}

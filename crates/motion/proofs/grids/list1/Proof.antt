@@ -1,4 +1,5 @@
--- `motion::grids::list1` meets its contract: empty grids hold nothing, and others are long enough. Assumes nothing.
+-- `motion::grids::list1` meets its contract: empty grids hold nothing, and others are long enough. Assumes
+-- nothing.
 use native.Mathlib.Omega.{arith}
 use mir.Syntax.{w32}
 use Rattle.laws.proofs.Num.{result}

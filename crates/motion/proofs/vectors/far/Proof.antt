@@ -1,4 +1,5 @@
--- `motion::vectors::far` meets its contract: the wrapped sum is above 2m just where the raised components are more than m apart. Assumes nothing.
+-- `motion::vectors::far` meets its contract: the wrapped sum is above 2m just where the raised components are
+-- more than m apart. Assumes nothing.
 use mathlib.Core.Path.{_∙_}
 use native.Mathlib.Omega.{arith}
 use borrow.Author.Needs.{needs}

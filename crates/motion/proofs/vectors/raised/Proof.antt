@@ -1,4 +1,5 @@
--- `motion::vectors::raised` meets its contract: the sum of a component and 32,768 is from 0 to 65,535, so no step loses bits. Assumes nothing.
+-- `motion::vectors::raised` meets its contract: the sum of a component and 32,768 is from 0 to 65,535, so no
+-- step loses bits. Assumes nothing.
 use native.Mathlib.Omega.{arith}
 use lib.Signed.{pos-natAbs}
 use mir.Syntax.{w32}

@@ -1,4 +1,5 @@
--- `deblock_strengths_kind`: above 3 the checks before 12 are made here, else `derive_mb_kind` makes them. Assumes nothing.
+-- `deblock_strengths_kind`: above 3 the checks before 12 are made here, else `derive_mb_kind` makes them.
+-- Assumes nothing.
 use borrow.Author.Needs.{needs}
 use mathlib.Core.Path.{sym, _∙_}
 use mathlib.Core.Bool.{false}

@@ -1,4 +1,5 @@
--- `each`: after k turns the first k answers stand in their places, and what is left to do leads where all of it leads from the start. Assumes nothing.
+-- `each`: after k turns the first k answers stand in their places, and what is left to do leads where all of
+-- it leads from the start. Assumes nothing.
 use borrow.Author.Needs.{needs}
 use Prim.Native.Nat.{_-_, _≤_}
 use mathlib.Core.Path.{_≡_, refl, sym, _∙_}

@@ -4,6 +4,7 @@
 use edges::Offsets;
 use edges::Size;
 use libc::STDOUT_FILENO;
+use pictures::rows::filter_frame;
 use strengths::calls::derive_mb;
 use strengths::calls::derive_mb_bs;
 use strengths::calls::derive_mb_kind;
@@ -11,7 +12,6 @@ use strengths::kinds::Flagged;
 use strengths::kinds::MbKind;
 use strengths::kinds::Plain;
 use strengths::kinds::Request;
-use strengths::rows::filter_frame;
 
 fn text(s: &[u8]) {
     io::write_all(STDOUT_FILENO, s);

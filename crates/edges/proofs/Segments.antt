@@ -7,8 +7,8 @@ use lib.ListN.{getD}
 use Rattle.laws.specs.Places.{Plane}
 use Rattle.laws.proofs.Loop.{upTo-same}
 use Rattle.lines.specs.Planes.{lumaAt, chromaAt}
-use Rattle.blocks.specs.Lines.{lumaWith, chromaWith, longLines, shortLines}
-use Rattle.blocks.specs.declared.lanes.Thresholds.{Thresholds}
+use Rattle.batches.specs.Lines.{lumaWith, chromaWith, longLines, shortLines}
+use Rattle.batches.specs.declared.lanes.Thresholds.{Thresholds}
 use Rattle.edges.specs.Edge.{lumaEdge, chromaEdge}
 use Rattle.edges.specs.Levels.{fourOf}
 

@@ -6,9 +6,9 @@ use Rattle.lines.specs.Thresholds.{average, chromaQp}
 use Rattle.lines.specs.Inner.{thresholdsOf}
 use Rattle.lines.specs.declared.limits.Limits.{Limits}
 use Rattle.lines.specs.declared.limits.Limits.the-variants.{Filtered, Nothing}
-use Rattle.blocks.specs.declared.chroma.Both.{Both}
-use Rattle.blocks.specs.declared.lanes.Four.{Four}
-use Rattle.blocks.specs.declared.lanes.Thresholds.{Thresholds}
+use Rattle.batches.specs.declared.chroma.Both.{Both}
+use Rattle.batches.specs.declared.lanes.Four.{Four}
+use Rattle.batches.specs.declared.lanes.Thresholds.{Thresholds}
 use Rattle.edges.specs.declared.levels.Three.{Three}
 use Rattle.edges.specs.declared.levels.Way.{Way}
 use Rattle.edges.specs.declared.levels.Levels.{Levels}

@@ -4,18 +4,18 @@
 ghost use mathlib.Core.Path.{_≡_};
 ghost use Prim.Native.Nat.{_+_, _*_, _<_, _≤_};
 ghost use lib.ListN.{length};
-ghost use Rattle.blocks.specs.Lines.{Straight, lumaWith, chromaWith};
+ghost use Rattle.batches.specs.Lines.{Straight, lumaWith, chromaWith};
 ghost use Rattle.edges.specs.Edge.{lumaEdge, chromaEdge};
 ghost use Rattle.edges.specs.Levels.{fourOf, bothOf};
 ghost use Rattle.edges.specs.Macroblock.{after};
 ghost use Rattle.edges.specs.Picture.{entries};
 use crate::levels::Way;
-use blocks::chroma::Both;
-use blocks::chroma::chroma_lines;
-use blocks::chroma::chroma_pair;
-use blocks::lanes::Four;
-use blocks::lanes::Thresholds;
-use blocks::luma::luma_lines;
+use batches::chroma::Both;
+use batches::chroma::chroma_lines;
+use batches::chroma::chroma_pair;
+use batches::lanes::Four;
+use batches::lanes::Thresholds;
+use batches::luma::luma_lines;
 
 // The strengths of an edge's four segments.
 fn four(bs: &[u8], first: usize) -> Four

@@ -3,7 +3,7 @@ ghost use mathlib.Core.Path.{_≡_};
 ghost use Prim.Native.Nat.{_+_, _-_, _*_, _<_, _≤_};
 ghost use mathlib.Core.Bool.{true, cond};
 ghost use lib.ListN.{length};
-ghost use Rattle.blocks.specs.Lines.{Straight, lumaWith, chromaWith};
+ghost use Rattle.batches.specs.Lines.{Straight, lumaWith, chromaWith};
 ghost use Rattle.edges.specs.Edge.{lumaEdge};
 ghost use Rattle.edges.specs.Levels.{acrossOf, downOf};
 ghost use Rattle.edges.specs.Macroblock.{after, lumaWay, chromaWay, lumaBoth, chromaBoth};
@@ -14,7 +14,7 @@ use crate::edge::chroma_edges;
 use crate::edge::luma_edge;
 use crate::levels::Three;
 use crate::levels::Way;
-use blocks::lanes::Thresholds;
+use batches::lanes::Thresholds;
 
 // An edge, if it is to be filtered. `q` is the place of its first line's q0.
 fn luma_edge_if(

@@ -4,7 +4,7 @@ use mathlib.Core.Path.{_≡_, sym, ap, _∙_}
 use mathlib.Core.Bool.{Bool, true, false}
 use mathlib.Core.List.{List}
 use Rattle.edges.specs.Picture.{Planes}
-use Rattle.strengths.specs.Filtering.{lent, FrameOutcome}
+use Rattle.pictures.specs.Filtering.{lent, FrameOutcome}
 use Rattle.visits.specs.Checks.{Given}
 use Rattle.visits.specs.Visit.{State}
 use Rattle.recordings.specs.Orders.{isWhole, turnsOf, visitsTo, filtered}

@@ -7,7 +7,7 @@ use mathlib.Core.Bool.{Bool, true, false, cond, _||_}
 use lib.Dec.{eqb, ltb}
 use Rattle.laws.specs.Loop.{upTo}
 use Rattle.edges.specs.Picture.{Planes, planes, rowsOf}
-use Rattle.strengths.specs.Filtering.{lent, rowAnswer}
+use Rattle.pictures.specs.Filtering.{lent, rowAnswer}
 use Rattle.visits.specs.Checks.{Given, heldOf}
 use Rattle.visits.specs.Promise.{visitOf}
 use Rattle.visits.specs.Visit.{At, State}

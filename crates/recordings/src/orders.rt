@@ -15,7 +15,7 @@ use crate::grids::row;
 use crate::space;
 use edges::Offsets;
 use edges::Size;
-use strengths::rows::filter_frame;
+use pictures::rows::filter_frame;
 use visits::visits::visit;
 
 // 120 passes over n macroblocks: each pass visits one at least, so n are enough.

@@ -8,13 +8,10 @@ use Rattle.laws.specs.Some.{some}
 use Rattle.motion.specs.Far.{outside}
 use Rattle.motion.specs.Grids.{Grids, grids, blkAt}
 use Rattle.motion.specs.Motion.{used, mismatched, differ, interStrength}
-use Rattle.edges.specs.Picture.{Planes, planes}
-use Rattle.edges.specs.declared.Offsets.{Offsets}
 use Rattle.edges.specs.declared.Size.{Size}
 use Rattle.strengths.specs.Blocks.{someRead}
 use Rattle.strengths.specs.Checks.{disagree}
 use Rattle.strengths.specs.Calls.{answerOf}
-use Rattle.strengths.specs.Filtering.{lent, over, rowAnswer}
 use Rattle.strengths.specs.Strength.{between, strengthAt}
 
 -- ---- one macroblock, all intra, no list 1
@@ -66,27 +63,3 @@ besideMoved =
 beside-moved : map (strengthAt besideMoved 2 false 1 0) (0 ∷ 1 ∷ 3 ∷ 4 ∷ 20 ∷ []) ≡ 2 ∷ 1 ∷ 1 ∷ 0 ∷ 0 ∷ []
 unfolding strengthAt between blkAt interStrength differ mismatched used outside
 beside-moved = refl
-
--- ---- the answer of a row call on one grey macroblock
-abbrev pub blank : List ℕ
-blank = replicate 32 0
-
-abbrev pub level : Offsets
-level = record { a = pos 0; b = pos 0; chroma = pos 0 }
-
-abbrev pub grey : Planes
-grey = planes (replicate 256 128) (replicate 64 128) (replicate 64 128)
-
-pub served : rowAnswer one 0 1 level grey (lent blank (30 ∷ []) []) ≡ 0
-unfolding rowAnswer over some
-served = refl
-
--- rows 0 to 2 of one row; no luma; QP 52; strength 5, with QP 52 beside it or without: the first check that
--- applies
-refusals : (rowAnswer one 0 2 level grey (lent blank (30 ∷ []) []) ≡ 2)
-    × (rowAnswer one 0 1 level (planes [] (grey .u) (grey .v)) (lent blank (30 ∷ []) []) ≡ 3)
-    × (rowAnswer one 0 1 level grey (lent blank (52 ∷ []) []) ≡ 8)
-    × (rowAnswer one 0 1 level grey (lent (replicate 32 5) (52 ∷ []) []) ≡ 8)
-    × (rowAnswer one 0 1 level grey (lent (replicate 32 5) (30 ∷ []) []) ≡ 9)
-unfolding rowAnswer over some
-refusals = (refl, refl, refl, refl, refl)

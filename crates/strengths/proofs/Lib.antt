@@ -2,14 +2,9 @@ pub mod Agreed
 pub mod Beside
 pub mod ByKind
 pub mod Examples
-pub mod Frames
 pub mod Inclusion
-pub mod Joined
 pub mod Outcomes
-pub mod Over
 pub mod Passed
-pub mod Ranges
 pub mod Refused
 pub mod Sized
-pub mod Whole
 pub mod Written

@@ -12,14 +12,16 @@ use lib.ListN.{length, getD}
 use Rattle.laws.specs.Refusal.{refusal}
 use Rattle.laws.specs.Some.{some}
 use Rattle.motion.specs.Grids.{Grids, grids}
-use Rattle.edges.specs.Picture.{Planes}
 use Rattle.strengths.specs.Blocks.{someRead}
 use Rattle.strengths.specs.Checks.{badInter, badRefs, disagree}
 use Rattle.strengths.specs.Calls.{numbers, answerOf, Outcome}
-use Rattle.strengths.specs.Filtering.{Lent, lent, RowOutcome}
 use Rattle.strengths.specs.Strength.{edge, vertical, skipped, strengthAt}
-use Rattle.strengths.proofs.Examples.{one, intra, answered, outer, inner, blank, level, grey, served}
+use Rattle.strengths.proofs.Examples.{one, intra, answered, outer, inner}
 use Rattle.strengths.proofs.Written.{written-at}
+
+-- a strengths grid of one macroblock, nothing written
+abbrev blank : List ℕ
+blank = replicate 32 0
 
 -- ---- a strength call that always refuses
 pub always-refuses : (n : ℕ) (s : List ℕ) → (n ≡ 0 → ⊥) → Outcome one 0 0 false intra false blank n s → ⊥
@@ -57,10 +59,3 @@ exchanged = refusal (numbers one 0 0 mixed 32 ++ (7, badInter mixed 1 0 0) ∷ (
 pub not-exchanged : exchanged ≡ answerOf one 0 0 mixed false 32 → ⊥
 unfolding answerOf someRead some disagree
 not-exchanged e = let k : _≡_ {A = ℕ} 11 10 = e in omega arith
-
--- ---- a filtering call that always refuses
-abbrev still : Lent
-still = lent blank (30 ∷ []) []
-
-pub rows-always-refuse : (n : ℕ) (p : Planes) → (n ≡ 0 → ⊥) → RowOutcome one 0 1 level still grey n p → ⊥
-rows-always-refuse n p h r = h (r .says ∙ served)

@@ -1,9 +1,7 @@
 pub mod Blocks
 pub mod ByKind
 pub mod Checks
-pub mod Filtering
 pub mod Inner
 pub mod Kinds
-pub mod Standard
 pub mod Strength
 pub mod Calls

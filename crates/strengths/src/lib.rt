@@ -1,9 +1,6 @@
-// Strengths of a macroblock from the 4x4 grids (ITU-T H.264, clause 8.7.2.1), and rows and whole pictures
-// filtered by strengths; all with numbered refusals.
+// Strengths of a macroblock from the 4x4 grids: ITU-T H.264, clause 8.7.2.1, with numbered refusals.
 pub mod calls;
 pub mod checks;
 pub mod derive;
-pub mod filtering;
 pub mod kinds;
-pub mod rows;
 pub mod walks;

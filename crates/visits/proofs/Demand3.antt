@@ -9,8 +9,8 @@ use Rattle.laws.proofs.Cond.{cond-both}
 use Rattle.motion.specs.Grids.{Grids}
 use Rattle.edges.specs.Picture.{Planes, stepOf, frameOf}
 use Rattle.edges.proofs.Pictures.{frame-steps}
-use Rattle.strengths.specs.Standard.{pictureOf, Derived}
-use Rattle.strengths.proofs.Joined.{derived-picture}
+use Rattle.pictures.specs.Standard.{pictureOf, Derived}
+use Rattle.pictures.proofs.Joined.{derived-picture}
 use Rattle.visits.specs.Visit.{At, State, Call, run, answers}
 use Rattle.visits.specs.AnyOrder.{AllVisited, AnyOrder, Demand3}
 use Rattle.visits.specs.Beyond.{Beyond3}

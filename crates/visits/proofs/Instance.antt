@@ -12,7 +12,7 @@ use Rattle.laws.proofs.Some.{some-idle}
 use Rattle.edges.specs.Picture.{Planes, stepOf}
 use Rattle.edges.proofs.Steps.{step-commute}
 use Rattle.edges.proofs.Pictures.{macroblock-sized}
-use Rattle.strengths.specs.Filtering.{over}
+use Rattle.pictures.specs.Filtering.{over}
 use Rattle.visits.specs.Instance.{AsksPlace, Commutes, Passes}
 use Rattle.visits.specs.Beyond.{Bits}
 use Rattle.visits.specs.Checks.{Given, heldOf, badMarks, badQps, checks, earlyOf, Sound, Fit}

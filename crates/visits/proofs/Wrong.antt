@@ -17,7 +17,7 @@ use Rattle.lines.specs.Tables.{alphas, betas, tc0s}
 use Rattle.lines.specs.Thresholds.{average, indexOf}
 use Rattle.lines.specs.Luma.{nudgeOf, innerOf, lumaNormal, normalLine, lumaLine}
 use Rattle.lines.specs.Planes.{lumaAt}
-use Rattle.edges.specs.Depth.{eight}
+use Rattle.lines.specs.Depth.{eight}
 use Rattle.edges.specs.Edge.{lumaRule, lumaEdge}
 use Rattle.edges.specs.Macroblock.{lumaWay, lumaBoth}
 use Rattle.edges.specs.Picture.{Planes, planes, lumaOf, flagAt, macroblockAt, stepOf}

@@ -12,7 +12,7 @@ use Rattle.edges.specs.Picture.{Planes, Held, held}
 use Rattle.edges.specs.declared.Offsets.{Offsets}
 use Rattle.edges.specs.declared.Size.{Size}
 use Rattle.strengths.specs.Checks.{badSize, outsideOf}
-use Rattle.strengths.specs.Filtering.{badPlanes, badLent, badOffsets, over}
+use Rattle.pictures.specs.Filtering.{badPlanes, badLent, badOffsets, over}
 use Rattle.visits.specs.Visit.{At, State}
 
 -- what is held the same throughout: size, offsets, strengths, QPs, 8x8 flags

@@ -9,11 +9,11 @@ ghost use Rattle.visits.specs.Checks.{given, overBefore, badFlag, badMar
 ghost use Rattle.visits.specs.Inner.{Inside};
 use edges::Offsets;
 use edges::Size;
+use pictures::filtering::any_over;
+use pictures::filtering::bad_lent;
+use pictures::filtering::bad_offsets;
+use pictures::filtering::bad_planes;
 use strengths::checks::bad_size;
-use strengths::filtering::any_over;
-use strengths::filtering::bad_lent;
-use strengths::filtering::bad_offsets;
-use strengths::filtering::bad_planes;
 
 // Where there is a neighbour d places before i, its entry is above `top`.
 fn over_before(near: bool, s: &[u8], i: usize, d: usize, top: u8) -> bool

@@ -2,7 +2,7 @@
 use borrow.Author.Needs.{needs}
 use mathlib.Core.Path.{refl}
 use native.Mathlib.Omega.{arith}
-use Rattle.blocks.specs.Lines.{vertical, horizontal}
+use Rattle.batches.specs.Lines.{vertical, horizontal}
 use Rattle.edges.specs.Picture.{entries}
 use Rattle.edges.proofs.Ways.{chroma-both}
 use Rattle.edges.proofs.macroblock.chroma.Statement.{statement}

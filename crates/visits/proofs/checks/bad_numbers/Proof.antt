@@ -7,7 +7,7 @@ use native.Mathlib.Omega.{arith}
 use lib.Dec.{eqb}
 use lib.ListN.{length}
 use Rattle.strengths.specs.Checks.{badSize, outsideOf}
-use Rattle.strengths.specs.Filtering.{badPlanes, badLent}
+use Rattle.pictures.specs.Filtering.{badPlanes, badLent}
 use Rattle.strengths.proofs.Sized.{Sized, sized}
 use Rattle.laws.proofs.Refusal.{skip, stop}
 use Rattle.visits.proofs.checks.bad_numbers.Statement.{statement}

@@ -1,0 +1,66 @@
+-- Worked examples of the definitions. Assumes nothing.
+use mathlib.Core.Path.{_≡_, refl}
+use mathlib.Core.Bool.{true, false}
+use mathlib.Core.List.{[], _∷_}
+use Prim.Native.Nat.{ℕ}
+use Rattle.laws.specs.Clip.{clip3, clip1}
+use Rattle.laws.specs.Loop.{upTo}
+use Rattle.laws.specs.Places.{Plane}
+use Rattle.lines.specs.Filter.{deltaOf}
+use Rattle.lines.specs.Chroma.{chromaNormal, normalShort, chromaLine}
+use Rattle.lines.specs.Planes.{chromaAt}
+use Rattle.lines.specs.Inner.{tcBy}
+use Rattle.batches.specs.Lines.{strengthAt, shortLines, side, sideStrength}
+use Rattle.batches.specs.Lanes.{weakRow, spreadOf, fourEach, twoEach, still}
+use Rattle.batches.specs.Moves.{copied, movedRows}
+use Rattle.batches.specs.declared.lanes.Four.{Four}
+use Rattle.batches.specs.declared.lanes.Thresholds.{Thresholds}
+
+abbrev pub mixed : Four
+mixed = record { a = 0; b = 2; c = 4; d = 9 }
+
+-- luma line 5 is of the second segment, chroma line 5 of the third, and line 13 of a chroma block is V's line
+-- 5
+fifth : (strengthAt 4 mixed 5 ≡ 2) × (strengthAt 2 mixed 5 ≡ 4) × (sideStrength mixed 13 ≡ 4)
+fifth = (refl, refl, refl)
+
+whose : (u v : ℕ) → (side u v 7 ≡ u) × (side u v 8 ≡ v)
+whose u v = (refl, refl)
+
+-- the thresholds of QP 30
+abbrev pub thirty : Thresholds
+thirty = record { alpha = 25; beta = 8; tc1 = 1; tc2 = 1; tc3 = 1 }
+
+abbrev pub shut : Thresholds
+shut = record { alpha = 0; beta = 8; tc1 = 1; tc2 = 1; tc3 = 1 }
+
+-- alpha for the lines of strengths 1 to 3 alone: of the second segment. In chroma of U's and then of V's
+weak-lanes : (fourEach (weakRow thirty) mixed ≡ spreadOf 0 0 25 25 0 0 0 0) × (twoEach (weakRow thirty) (weakRow shut) mixed ≡ spreadOf 0 25 0 0 0 0 0 0)
+weak-lanes = (refl, refl)
+
+abbrev pub nowhere : Four
+nowhere = record { a = 0; b = 0; c = 0; d = 0 }
+
+-- lines may change where a strength is not 0 and alpha is not
+when-still : (still mixed thirty ≡ false) × (still nowhere thirty ≡ true) × (still mixed shut ≡ true)
+when-still = (refl, refl, refl)
+
+-- two rows of two samples, two apart, to places three apart
+two-rows : movedRows 2 2 1 3 0 2 (5 ∷ 6 ∷ 7 ∷ 8 ∷ []) (1 ∷ 1 ∷ 1 ∷ 1 ∷ 1 ∷ 1 ∷ 1 ∷ []) ≡ 1 ∷ 5 ∷ 6 ∷ 1 ∷ 7 ∷ 8 ∷ 1 ∷ []
+unfolding movedRows copied upTo
+two-rows = refl
+
+-- ---- two chroma edges of one row, 60 60 | 70 70 and 70 70 | 80 80, of strengths 1 and 2 at QP 30 (P8 of the
+-- proved table)
+abbrev pub steps : Plane
+steps = 60 ∷ 60 ∷ 70 ∷ 70 ∷ 70 ∷ 70 ∷ 80 ∷ 80 ∷ []
+
+abbrev pub one : Four
+one = record { a = 1; b = 0; c = 0; d = 0 }
+
+abbrev pub two : Four
+two = record { a = 2; b = 0; c = 0; d = 0 }
+
+both-edges : shortLines two thirty 4 8 1 (shortLines one thirty 0 8 1 steps) ≡ 60 ∷ 62 ∷ 68 ∷ 70 ∷ 70 ∷ 72 ∷ 78 ∷ 80 ∷ []
+unfolding shortLines upTo chromaAt chromaLine normalShort chromaNormal deltaOf clip3 clip1 tcBy
+both-edges = refl

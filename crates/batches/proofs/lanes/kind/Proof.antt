@@ -1,0 +1,14 @@
+-- `kind`: each return is the case of its test. Assumes nothing.
+use native.Mathlib.Omega.{arith}
+use borrow.Author.Tests.{lt-ltb, le-ltb}
+use Rattle.batches.proofs.lanes.kind.Statement.{statement}
+use Rattle.batches.proofs.lanes.kind.Tie as tie
+
+returns : tie.Need-returns
+returns c = (simp (lt-ltb _ 4 (c .if1 .taken)), omega arith)
+
+returns-2 : tie.Need-returns-2
+returns-2 c = (simp (le-ltb _ 4 (c .if1 .left)), omega arith)
+
+pub kind-spec : {M : Type 1} → statement M
+kind-spec = tie.close (tie.spec returns returns-2)

@@ -1,0 +1,34 @@
+-- `luma_lines`: where no line can change none does; else what is filtered in the block are the edge's lines.
+-- Assumes nothing.
+use mathlib.Core.Path.{sym, _∙_}
+use borrow.Author.Needs.{needs}
+use Rattle.batches.proofs.EdgeLines.{long-still, long-edge}
+use Rattle.batches.proofs.luma.luma_lines.Statement.{statement}
+use Rattle.batches.proofs.luma.luma_lines.Tie as tie
+
+returns : tie.Need-returns
+returns c =
+    let a = c .before .before .before .args in
+    sym (long-still (a .s) (a .l) (a .at) (a .along) (a .step) (a .plane .now) (sym (c .before .is-still .ensures) ∙ c .if1 .taken))
+
+returns-2 : tie.Need-returns-2
+returns-2 c =
+    let w = c .before .before in
+    let b = w .before .before in
+    let t = b .before in
+    let s = t .before .before .before .before .before in
+    let a = s .args in
+    let e = rw (t .take .ensures) at (b .block .ensures) in
+    rw e at (w .give .ensures) ∙ long-edge (a .s) (a .l) (a .at) (a .along) (a .step) (a .plane .now) (s .pre .1) (s .pre .0)
+
+pub luma-lines-spec : {M : Type 1} → statement M
+luma-lines-spec =
+    tie.close
+    (tie.spec
+    (λ c κs. search needs)
+    returns
+    (λ c κs. search needs)
+    (λ c κs. search needs)
+    (λ c κs. search needs)
+    (λ c. search needs)
+    returns-2)

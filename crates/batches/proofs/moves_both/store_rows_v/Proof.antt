@@ -1,0 +1,40 @@
+-- `store_rows_v`: after r turns the first r rows are stored. Assumes nothing.
+use Prim.Native.Nat.{_+_, _-_, _≤_, _*_}
+use mathlib.Core.Path.{_≡_}
+use native.Mathlib.Omega.{arith}
+use lib.ListN.{length}
+use Rattle.laws.specs.Loop.{upTo}
+use Rattle.laws.proofs.Loop.{loops, mul-below}
+use Rattle.batches.specs.Moves.{copied, movedRows}
+use Rattle.batches.proofs.moves_both.store_rows_v.Statement.{statement}
+use Rattle.batches.proofs.moves_both.store_rows_v.Tie as tie
+
+abbrev Inv : tie.InvT-loop
+Inv p₀ at stride t r₀ p r = (r ≤ 8) × (length p ≡ length p₀) × (p ≡ upTo r (λ j. copied 8 (at + j * stride) (8 + j * 16) t) p₀)
+
+abbrev μ : tie.MeasureT-loop
+μ p₀ at stride t r₀ p r = 8 - r
+
+bound : (c : tie.In-loop Inv μ) → let s = c .before .before .before .args .stride in c .before .loop .r * s ≤ 7 * s
+bound c = mul-below _ 8 _ (omega arith)
+
+returns : tie.Need-returns Inv μ
+unfolding movedRows
+returns c = search loops
+
+pub store-rows-v-spec : {M : Type 1} → statement M
+store-rows-v-spec =
+    tie.close
+    (tie.spec Inv μ
+    (λ c. search loops)
+    (λ c. omega (arith, bound (c .before)))
+    (λ c. omega (arith, bound (c .before)))
+    (λ c. search loops)
+    (λ c. search loops)
+    (λ c. search loops)
+    (λ c κs. (omega (arith, bound (c .before .before)), omega arith))
+    (λ c. search loops)
+    (λ c. search loops)
+    (λ c. search loops)
+    (λ c. search loops)
+    returns)

@@ -1,0 +1,135 @@
+// The chroma lines of two edges of both planes: loaded into a block, filtered there, stored; or of one edge
+// of one plane, one by one. `at` is the place of the first line's first sample, `along` the way from a line
+// to the next and `step` the way across; the second edge is four samples after the first, so that the two
+// share none.
+ghost use mathlib.Core.Path.{_≡_};
+ghost use Prim.Native.Nat.{_+_, _*_, _<_};
+ghost use mathlib.Core.Bool.{_&&_};
+ghost use lib.ListN.{length};
+ghost use Rattle.laws.specs.Loop.{upTo};
+ghost use Rattle.lines.specs.Inner.{tcBy};
+ghost use Rattle.batches.specs.Lanes.{still};
+ghost use Rattle.batches.specs.Lines.{Straight, upper, lower, shortAt, shortLines};
+ghost use Rattle.batches.specs.Moves.{takenBoth, given};
+use crate::chroma_passes::first_edge;
+use crate::chroma_passes::second_edge;
+use crate::lanes::Four;
+use crate::lanes::Thresholds;
+use crate::lanes::is_still;
+use crate::moves::zip;
+use crate::moves_both::load_cols;
+use crate::moves_both::load_rows;
+use crate::moves_both::store_cols_u;
+use crate::moves_both::store_cols_v;
+use crate::moves_both::store_rows_u;
+use crate::moves_both::store_rows_v;
+use lines::planes::filter_chroma_line;
+
+// What an edge is filtered with in both planes.
+pub struct Both {
+    pub s: Four,
+    pub u: Thresholds,
+    pub v: Thresholds,
+}
+
+fn take(u: &[u8], v: &[u8], at: usize, along: usize, step: usize) -> [u8; 128]
+    requires { ⌜ (at + 7 * along + 7 * step < length (now u)) × (at + 7 * along + 7 * step < length (now v)) ⌝ }
+    requires { ⌜ Straight 8 along step ⌝ }
+    ensures { λ r. ⌜ r ≡ takenBoth at along step (now (u .entry)) (now (v .entry)) ⌝ }
+{
+    if step == 1 {
+        return zip(zip(zip(zip(load_cols(u, v, at, along)))));
+    }
+    load_rows(u, v, at, step)
+}
+
+fn give(u: &mut [u8], v: &mut [u8], at: usize, along: usize, step: usize, t: [u8; 128])
+    requires { ⌜ (at + 7 * along + 7 * step < length (now u)) × (at + 7 * along + 7 * step < length (now v)) ⌝ }
+    requires { ⌜ Straight 8 along step ⌝ }
+    ensures { λ _. ⌜ now (u .exit) ≡ given 0 8 at along step t (now (u .entry)) ⌝ }
+    ensures { λ _. ⌜ now (v .exit) ≡ given 8 8 at along step t (now (v .entry)) ⌝ }
+{
+    if step == 1 {
+        let w = zip(zip(zip(t)));
+        store_cols_u(u, at, along, w);
+        store_cols_v(v, at, along, w);
+        return;
+    }
+    store_rows_u(u, at, step, t);
+    store_rows_v(v, at, step, t);
+}
+
+// tC0 of a strength.
+fn tc0(bs: u8, l: Thresholds) -> u8
+    ensures { λ r. ⌜ r ≡ tcBy bs (l .tc1) (l .tc2) (l .tc3) ⌝ }
+{
+    if bs == 1 {
+        return l.tc1;
+    }
+    if bs == 2 {
+        return l.tc2;
+    }
+    l.tc3
+}
+
+// The lines of one edge of one plane one after the other, each at the strength of its segment: where no
+// second edge is in reach, as at the picture's border.
+pub fn chroma_lines(plane: &mut [u8], at: usize, along: usize, step: usize, s: Four, l: Thresholds)
+    requires { ⌜ at + 7 * along + 3 * step < length (now plane) ⌝ }
+    ensures { λ _. ⌜ now (plane .exit) ≡ shortLines s l at along step (now (plane .entry)) ⌝ }
+{
+    if is_still(s, l) {
+        return;
+    }
+    let bs = [s.a, s.b, s.c, s.d];
+    for k in 0..8usize {
+        let b = bs[k / 2];
+        filter_chroma_line(plane, at + k * along, step, b, l.alpha, l.beta, tc0(b, l));
+    }
+}
+
+fn both_still(e: Both) -> bool
+    ensures { λ r. ⌜ r ≡ (still (e .s) (e .u) && still (e .s) (e .v)) ⌝ }
+{
+    let s = e.s;
+    let l = e.u;
+    let m = e.v;
+    is_still(s, l) & is_still(s, m)
+}
+
+// Each line of the block at its own strength.
+fn block(t: [u8; 128], first: Both, second: Both) -> [u8; 128]
+    ensures { λ r. ⌜ r ≡ upTo 16 (shortAt lower (second .s) (second .u) (second .v)) (upTo 16 (shortAt upper (first .s) (first .u) (first .v)) t) ⌝ }
+{
+    let s1 = first.s;
+    let u1 = first.u;
+    let v1 = first.v;
+    let s2 = second.s;
+    let u2 = second.u;
+    let v2 = second.v;
+    second_edge(first_edge(t, s1, u1, v1), s2, u2, v2)
+}
+
+// In each plane the lines of the first edge one after the other, then those of the second, each at the
+// strength of its segment. Where none can change, no sample is read.
+pub fn chroma_pair(
+    u: &mut [u8],
+    v: &mut [u8],
+    at: usize,
+    along: usize,
+    step: usize,
+    first: Both,
+    second: Both,
+)
+    requires { ⌜ (at + 7 * along + 7 * step < length (now u)) × (at + 7 * along + 7 * step < length (now v)) ⌝ }
+    requires { ⌜ Straight 8 along step ⌝ }
+    ensures { λ _. ⌜ now (u .exit) ≡ shortLines (second .s) (second .u) (at + 4 * step) along step (shortLines (first .s) (first .u) at along step (now (u .entry))) ⌝ }
+    ensures { λ _. ⌜ now (v .exit) ≡ shortLines (second .s) (second .v) (at + 4 * step) along step (shortLines (first .s) (first .v) at along step (now (v .entry))) ⌝ }
+{
+    if both_still(first) & both_still(second) {
+        return;
+    }
+    let t = take(u, v, at, along, step);
+    let r = block(t, first, second);
+    give(u, v, at, along, step, r);
+}

@@ -1,0 +1,92 @@
+// The chroma lines of a block: as the luma lines, for its first edge and then for its second. U's lines are
+// lent by the thresholds l, V's by m.
+ghost use mathlib.Core.Path.{_≡_};
+ghost use Rattle.laws.specs.Loop.{upTo};
+ghost use Rattle.batches.specs.Lanes.{isWeak, isStrong};
+ghost use Rattle.batches.specs.Lines.{upper, lower, sideStrength, shortAt, only};
+use crate::lanes::Four;
+use crate::lanes::Thresholds;
+use crate::lanes::any_strong;
+use crate::lanes::any_weak;
+use crate::lanes::eight_each;
+use crate::lanes::strong_row;
+use crate::lanes::tc_row;
+use crate::lanes::two_each;
+use crate::lanes::weak_row;
+use lines::planes::chroma_normal;
+use lines::planes::chroma_strong;
+
+fn first_normal(t: [u8; 128], s: Four, l: Thresholds, m: Thresholds) -> [u8; 128]
+    ensures { λ r. ⌜ r ≡ upTo 16 (only isWeak (sideStrength s) (shortAt upper s l m)) t ⌝ }
+{
+    if !any_weak(s) {
+        return t;
+    }
+    let al = two_each(weak_row(l), weak_row(m), s);
+    let tc = two_each(tc_row(l), tc_row(m), s);
+    let be = eight_each(l.beta, m.beta);
+    let mut r = t;
+    for k in 0..16usize {
+        chroma_normal(&mut r, k, 16, al[k], be[k], tc[k]);
+    }
+    r
+}
+
+fn first_strong(t: [u8; 128], s: Four, l: Thresholds, m: Thresholds) -> [u8; 128]
+    ensures { λ r. ⌜ r ≡ upTo 16 (only isStrong (sideStrength s) (shortAt upper s l m)) t ⌝ }
+{
+    if !any_strong(s) {
+        return t;
+    }
+    let al = two_each(strong_row(l), strong_row(m), s);
+    let be = eight_each(l.beta, m.beta);
+    let mut r = t;
+    for k in 0..16usize {
+        chroma_strong(&mut r, k, 16, al[k], be[k]);
+    }
+    r
+}
+
+fn second_normal(t: [u8; 128], s: Four, l: Thresholds, m: Thresholds) -> [u8; 128]
+    ensures { λ r. ⌜ r ≡ upTo 16 (only isWeak (sideStrength s) (shortAt lower s l m)) t ⌝ }
+{
+    if !any_weak(s) {
+        return t;
+    }
+    let al = two_each(weak_row(l), weak_row(m), s);
+    let tc = two_each(tc_row(l), tc_row(m), s);
+    let be = eight_each(l.beta, m.beta);
+    let mut r = t;
+    for k in 0..16usize {
+        chroma_normal(&mut r, 64 + k, 16, al[k], be[k], tc[k]);
+    }
+    r
+}
+
+fn second_strong(t: [u8; 128], s: Four, l: Thresholds, m: Thresholds) -> [u8; 128]
+    ensures { λ r. ⌜ r ≡ upTo 16 (only isStrong (sideStrength s) (shortAt lower s l m)) t ⌝ }
+{
+    if !any_strong(s) {
+        return t;
+    }
+    let al = two_each(strong_row(l), strong_row(m), s);
+    let be = eight_each(l.beta, m.beta);
+    let mut r = t;
+    for k in 0..16usize {
+        chroma_strong(&mut r, 64 + k, 16, al[k], be[k]);
+    }
+    r
+}
+
+// Each line of the first edge at its own strength.
+pub fn first_edge(t: [u8; 128], s: Four, l: Thresholds, m: Thresholds) -> [u8; 128]
+    ensures { λ r. ⌜ r ≡ upTo 16 (shortAt upper s l m) t ⌝ }
+{
+    first_strong(first_normal(t, s, l, m), s, l, m)
+}
+
+pub fn second_edge(t: [u8; 128], s: Four, l: Thresholds, m: Thresholds) -> [u8; 128]
+    ensures { λ r. ⌜ r ≡ upTo 16 (shortAt lower s l m) t ⌝ }
+{
+    second_strong(second_normal(t, s, l, m), s, l, m)
+}

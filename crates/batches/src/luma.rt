@@ -1,0 +1,54 @@
+// The sixteen luma lines of an edge: loaded into a block, filtered there, stored. `at` is the place of the
+// first line's first sample, `along` the way from a line to the next and `step` the way across.
+ghost use mathlib.Core.Path.{_≡_};
+ghost use Prim.Native.Nat.{_+_, _*_, _<_};
+ghost use lib.ListN.{length};
+ghost use Rattle.batches.specs.Lines.{Straight, longLines};
+ghost use Rattle.batches.specs.Moves.{taken, given};
+use crate::lanes::Four;
+use crate::lanes::Thresholds;
+use crate::lanes::is_still;
+use crate::luma_passes::block;
+use crate::moves::load_cols;
+use crate::moves::load_rows;
+use crate::moves::store_cols;
+use crate::moves::store_rows;
+use crate::moves::zip;
+
+fn take(p: &[u8], at: usize, along: usize, step: usize) -> [u8; 128]
+    requires { ⌜ at + 15 * along + 7 * step < length (now p) ⌝ }
+    requires { ⌜ Straight 16 along step ⌝ }
+    ensures { λ r. ⌜ r ≡ taken at along step (now (p .entry)) ⌝ }
+{
+    if step == 1 {
+        return zip(zip(zip(zip(load_cols(p, at, along)))));
+    }
+    load_rows(p, at, step)
+}
+
+fn give(p: &mut [u8], at: usize, along: usize, step: usize, t: [u8; 128])
+    requires { ⌜ at + 15 * along + 7 * step < length (now p) ⌝ }
+    requires { ⌜ Straight 16 along step ⌝ }
+    ensures { λ _. ⌜ now (p .exit) ≡ given 0 16 at along step t (now (p .entry)) ⌝ }
+{
+    if step == 1 {
+        store_cols(p, at, along, zip(zip(zip(t))));
+        return;
+    }
+    store_rows(p, at, step, t);
+}
+
+// The lines one after the other, each at the strength of its segment. Where none can change, no sample is
+// read.
+pub fn luma_lines(plane: &mut [u8], at: usize, along: usize, step: usize, s: Four, l: Thresholds)
+    requires { ⌜ at + 15 * along + 7 * step < length (now plane) ⌝ }
+    requires { ⌜ Straight 16 along step ⌝ }
+    ensures { λ _. ⌜ now (plane .exit) ≡ longLines s l at along step (now (plane .entry)) ⌝ }
+{
+    if is_still(s, l) {
+        return;
+    }
+    let t = take(plane, at, along, step);
+    let r = block(t, s, l);
+    give(plane, at, along, step, r);
+}

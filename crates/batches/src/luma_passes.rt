@@ -1,0 +1,54 @@
+// The luma lines of a block: those of strengths 1 to 3 in one pass, those of strength 4 in another. A pass
+// leaves a line that it lends an alpha of 0.
+ghost use mathlib.Core.Path.{_≡_};
+ghost use Rattle.laws.specs.Loop.{upTo};
+ghost use Rattle.batches.specs.Lanes.{isWeak, isStrong};
+ghost use Rattle.batches.specs.Lines.{strengthAt, longAt, only};
+use crate::lanes::Four;
+use crate::lanes::Thresholds;
+use crate::lanes::any_strong;
+use crate::lanes::any_weak;
+use crate::lanes::four_each;
+use crate::lanes::strong_row;
+use crate::lanes::tc_row;
+use crate::lanes::weak_row;
+use lines::planes::luma_normal;
+use lines::planes::luma_strong;
+
+fn normal(t: [u8; 128], s: Four, l: Thresholds) -> [u8; 128]
+    ensures { λ r. ⌜ r ≡ upTo 16 (only isWeak (strengthAt 4 s) (longAt s l)) t ⌝ }
+{
+    if !any_weak(s) {
+        return t;
+    }
+    let al = four_each(weak_row(l), s);
+    let tc = four_each(tc_row(l), s);
+    let beta = l.beta;
+    let mut r = t;
+    for k in 0..16usize {
+        luma_normal(&mut r, k, 16, al[k], beta, tc[k]);
+    }
+    r
+}
+
+fn strong(t: [u8; 128], s: Four, l: Thresholds) -> [u8; 128]
+    ensures { λ r. ⌜ r ≡ upTo 16 (only isStrong (strengthAt 4 s) (longAt s l)) t ⌝ }
+{
+    if !any_strong(s) {
+        return t;
+    }
+    let al = four_each(strong_row(l), s);
+    let beta = l.beta;
+    let mut r = t;
+    for k in 0..16usize {
+        luma_strong(&mut r, k, 16, al[k], beta);
+    }
+    r
+}
+
+// Each line at its own strength.
+pub fn block(t: [u8; 128], s: Four, l: Thresholds) -> [u8; 128]
+    ensures { λ r. ⌜ r ≡ upTo 16 (longAt s l) t ⌝ }
+{
+    strong(normal(t, s, l), s, l)
+}

@@ -1,0 +1,16 @@
+-- `deblock_visit`: what it hands on to `visit` is what it was given. Assumes nothing.
+use borrow.Author.Needs.{needs}
+use mir.Facts.{toZ-ofZ}
+use Rattle.deblock.specs.Numbers.{offsets}
+use Rattle.deblock.proofs.Kept.{visit-kept}
+use Rattle.deblock.proofs.visiting.deblock_visit.Statement.{statement}
+use Rattle.deblock.proofs.visiting.deblock_visit.Tie as tie
+
+returns : tie.Need-returns
+returns c =
+    let d = c .before .before .before .before .before .before .before .before in
+    let f = d .before .before .before .before .before .before .before .before .before .before .before .before .fits in
+    visit-kept _ _ _ _ _ _ _ _ (λ i. offsets (toZ-ofZ (f .a) i) (toZ-ofZ (f .b) i) (toZ-ofZ (f .chroma) i)) (d .visit .ensures)
+
+pub deblock-visit-spec : {M : Type 1} → statement M
+deblock-visit-spec = tie.close (tie.spec (λ c κs. search needs) (λ c. search needs) (λ c. search needs) (λ c. search needs) (λ c. search needs) returns)

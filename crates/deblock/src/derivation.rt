@@ -1,0 +1,113 @@
+// The strength calls, for C.
+ghost use mathlib.Core.Path.{_≡_};
+ghost use mathlib.Core.Bool.{false};
+ghost use Rattle.motion.specs.Grids.{grids};
+ghost use Rattle.strengths.specs.Calls.{Outcome, FlagsOutcome, PlainOutcome};
+ghost use Rattle.deblock.specs.Numbers.{size, plain, flagged, kindNumber, untrueNumber};
+use edges::Size;
+use strengths::calls::derive_mb;
+use strengths::calls::derive_mb_bs;
+use strengths::calls::derive_mb_kind;
+use strengths::checks::refuse;
+use strengths::kinds::Flagged;
+use strengths::kinds::MbKind;
+use strengths::kinds::Plain;
+use strengths::kinds::Request;
+
+// Strengths of a macroblock of which nothing is known but its transform.
+#[no_mangle]
+pub extern "C" fn deblock_strengths<'a>(
+    w: usize,
+    h: usize,
+    x: usize,
+    y: usize,
+    t8: u8,
+    inter: &[u8],
+    nnz: &[u8],
+    ref0: &[i8],
+    mv0: &'a [i16],
+    ref1: &[i8],
+    mv1: &'a [i16],
+    strengths: &mut [u8],
+) -> u32
+    ensures { λ n. ⌜ PlainOutcome (size w h) (plain x y t8) (grids (now (inter .entry)) (now (nnz .entry)) (now (ref0 .entry)) (now (mv0 .entry)) (now (ref1 .entry)) (now (mv1 .entry))) (now (strengths .entry)) n (now (strengths .exit)) ⌝ }
+{
+    let z = Size { w, h };
+    let p = Plain { x, y, t8: t8 != 0 };
+    derive_mb(z, p, inter, nnz, ref0, mv0, ref1, mv1, strengths)
+}
+
+// Strengths with flags that the caller sets where they are true.
+#[no_mangle]
+pub extern "C" fn deblock_strengths_flags<'a>(
+    w: usize,
+    h: usize,
+    x: usize,
+    y: usize,
+    flat: u8,
+    uniform: u8,
+    t8: u8,
+    inter: &[u8],
+    nnz: &[u8],
+    ref0: &[i8],
+    mv0: &'a [i16],
+    ref1: &[i8],
+    mv1: &'a [i16],
+    strengths: &mut [u8],
+) -> u32
+    ensures { λ n. ⌜ FlagsOutcome (size w h) (flagged x y flat uniform t8) (grids (now (inter .entry)) (now (nnz .entry)) (now (ref0 .entry)) (now (mv0 .entry)) (now (ref1 .entry)) (now (mv1 .entry))) (now (strengths .entry)) n (now (strengths .exit)) ⌝ }
+{
+    let z = Size { w, h };
+    let f = Flagged {
+        x,
+        y,
+        flat: flat != 0,
+        uniform: uniform != 0,
+        t8: t8 != 0,
+    };
+    derive_mb_bs(z, f, inter, nnz, ref0, mv0, ref1, mv1, strengths)
+}
+
+// The kind that a number up to 3 stands for.
+fn kind_of_number(k: u8) -> MbKind
+    ensures { λ r. ⌜ r ≡ kindNumber k ⌝ }
+{
+    if k == 0 {
+        return MbKind::Intra;
+    }
+    if k == 1 {
+        return MbKind::Skip;
+    }
+    if k == 2 {
+        return MbKind::InterUniform;
+    }
+    MbKind::Inter
+}
+
+// Strengths of a macroblock whose kind is known. A number above 3 is a kind that is true of no grids.
+#[no_mangle]
+pub extern "C" fn deblock_strengths_kind<'a>(
+    w: usize,
+    h: usize,
+    x: usize,
+    y: usize,
+    kind: u8,
+    inter: &[u8],
+    nnz: &[u8],
+    ref0: &[i8],
+    mv0: &'a [i16],
+    ref1: &[i8],
+    mv1: &'a [i16],
+    strengths: &mut [u8],
+) -> u32
+    ensures { λ n. ⌜ Outcome (size w h) x y false (grids (now (inter .entry)) (now (nnz .entry)) (now (ref0 .entry)) (now (mv0 .entry)) (now (ref1 .entry)) (now (mv1 .entry))) (untrueNumber (size w h) x y kind (grids (now (inter .entry)) (now (nnz .entry)) (now (ref0 .entry)) (now (mv0 .entry)) (now (ref1 .entry)) (now (mv1 .entry)))) (now (strengths .entry)) n (now (strengths .exit)) ⌝ }
+{
+    let z = Size { w, h };
+    if 3 < kind {
+        let n = refuse(z, x, y, strengths.len(), inter, nnz, ref0, mv0, ref1, mv1);
+        return if n != 0 { n } else { 12 };
+    }
+    let kind = kind_of_number(kind);
+    let r = Request { x, y, kind };
+    derive_mb_kind(z, r, inter, nnz, ref0, mv0, ref1, mv1, strengths)
+}

@@ -1,0 +1,33 @@
+// The visit, for C.
+ghost use Rattle.edges.specs.Picture.{planes};
+ghost use Rattle.visits.specs.Checks.{given};
+ghost use Rattle.visits.specs.Promise.{VisitOutcome};
+ghost use Rattle.deblock.specs.Numbers.{size, offsets};
+use edges::Offsets;
+use edges::Size;
+use visits::visits::visit;
+
+// One macroblock, marked once filtered.
+#[no_mangle]
+pub extern "C" fn deblock_visit(
+    w: usize,
+    h: usize,
+    mb_x: usize,
+    mb_y: usize,
+    a: i32,
+    b: i32,
+    chroma: i32,
+    y: &mut [u8],
+    u: &mut [u8],
+    v: &mut [u8],
+    strengths: &[u8],
+    qps: &[u8],
+    t8s: &[u8],
+    marks: &mut [u8],
+) -> u32
+    ensures { λ n. ⌜ VisitOutcome (given (size w h) (offsets a b chroma) (now (strengths .entry)) (now (qps .entry)) (now (t8s .entry))) (planes (now (y .entry)) (now (u .entry)) (now (v .entry)), now (marks .entry)) («mb_x», «mb_y») n (planes (now (y .exit)) (now (u .exit)) (now (v .exit)), now (marks .exit)) ⌝ }
+{
+    let z = Size { w, h };
+    let o = Offsets { a, b, chroma };
+    visit(z, mb_x, mb_y, o, y, u, v, strengths, qps, t8s, marks)
+}

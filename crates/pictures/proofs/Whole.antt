@@ -1,0 +1,126 @@
+-- Theorems of the filtering calls: what a served and a refused call leave, an empty range, ranges that join,
+-- a whole picture, bytes. Assumes nothing.
+use mathlib.Core.Path.{_≡_, refl, sym, ap, subst, _∙_}
+use mathlib.Core.Bool.{Bool, true, false, cond, not, _&&_}
+use mathlib.Core.List.{List}
+use mathlib.Core.Logic.{_⊎_, ⊎-elim}
+use Prim.Native.Nat.{ℕ, _+_, _-_, _*_, _≤_, _<_}
+use native.Mathlib.Nat.{le-refl, le-trans, eq-or-lt-of-le}
+use native.Mathlib.Omega.{arith}
+use borrow.Author.Tests.{ne-eqb, le-ltb, lt-ltb}
+use lib.Dec.{eqb, ltb}
+use lib.ListN.{length}
+use Rattle.laws.specs.Refusal.{refusal}
+use Rattle.laws.proofs.Cond.{cond-both}
+use Rattle.laws.proofs.Refusal.{Passed, nonzero, passed, skip}
+use Rattle.lines.specs.Depth.{eight}
+use Rattle.edges.specs.Picture.{Planes, Held, held, rowsOf, frameOf}
+use Rattle.edges.specs.declared.Offsets.{Offsets}
+use Rattle.edges.specs.declared.Size.{Size}
+use Rattle.edges.proofs.Pictures.{rows-none, rows-join, rows-frame, rows-sized, rows-below, Sized, Below}
+use Rattle.pictures.specs.Filtering.{Lent, over, badFlags, badRange, qpsFrom, rowValues, rowAnswer, RowOutcome, FrameOutcome}
+use Rattle.pictures.proofs.Frames.{good-rows, lengthChecks, numbered, first, second, then, firsts, seconds, done}
+use Rattle.pictures.proofs.Over.{over-none, over-join}
+use Rattle.pictures.proofs.Ranges.{first-le, from-le}
+
+abbrev of : Size → Offsets → Lent → Held
+of z o l = held (z .w) (l .strengths) (l .qps) (l .t8s) o
+
+module _ (z : Size) (o : Offsets) (l : Lent) (p : Planes) where
+  -- a refused call leaves the planes
+  pub untouched : (a b n : ℕ) (p′ : Planes) → (n ≡ 0 → ⊥) → RowOutcome z a b o l p n p′ → p′ ≡ p
+  untouched a b n p′ h r = r .leaves ∙ ap (λ (t : Bool). cond t (rowsOf (of z o l) a b p) p) (ne-eqb n 0 h)
+
+  -- a whole picture is its macroblocks in raster order
+  pub whole : (p′ : Planes) → FrameOutcome z o l p 0 p′ → p′ ≡ frameOf (of z o l) (z .h) p
+  whole p′ r = r .leaves ∙ rows-frame (of z o l) (z .h) p
+
+  -- ---- lengths are kept, and bytes stay bytes
+  pub lengths : (a b n : ℕ) (p′ : Planes) → RowOutcome z a b o l p n p′ → Sized p p′
+  lengths a b n p′ r = subst (Sized p) (sym (r .leaves)) (cond-both (Sized p) (eqb n 0) (rows-sized (of z o l) p a b) (record { y = refl; u = refl; v = refl }))
+
+  pub bytes : (a b n : ℕ) (p′ : Planes) → Below 255 p → RowOutcome z a b o l p n p′ → Below 255 p′
+  unfolding eight
+  bytes a b n p′ h r = subst (Below 255) (sym (r .leaves)) (cond-both (Below 255) (eqb n 0) (rows-below (of z o l) p a b h) h)
+
+  -- ---- an empty range that passes checks 1 to 6 is served, whatever the values are, and leaves the planes
+  no-flags : (n : ℕ) → badFlags n n (l .t8s) ≡ false
+  no-flags n = go (not (eqb (length (l .t8s)) 0))
+    where
+      go : (t : Bool) → (t && over 1 n n (l .t8s)) ≡ false
+      go true = sym (over-none 1 n (l .t8s))
+      go false = refl
+
+  no-before : (w a : ℕ) → qpsFrom w a a ≡ a * w
+  no-before w a = go (ltb 0 a) (ltb a a) (le-ltb a a (le-refl a))
+    where
+      go : (s t : Bool) → t ≡ false → cond (s && t) (a * w - w) (a * w) ≡ a * w
+      go true t e = ap (λ (b : Bool). cond b (a * w - w) (a * w)) e
+      go false t e = refl
+
+  no-values : (a : ℕ) → refusal (rowValues (z .w) a a l) ≡ 0
+  no-values a =
+      sym
+      (skip 7 (no-flags (a * z .w))
+      (skip 8 (ap (λ (n : ℕ). over 51 n (a * z .w) (l .qps)) (no-before (z .w) a) ∙ sym (over-none 51 (a * z .w) (l .qps)))
+      (skip 9 (sym (over-none 4 (32 * (a * z .w)) (l .strengths))) refl)))
+
+  pub empty-range : (a n : ℕ) (p′ : Planes) → first z a a o l p ≡ 0 → RowOutcome z a a o l p n p′ → (n ≡ 0) × (p′ ≡ p)
+  empty-range a n p′ e r =
+      let k : n ≡ 0 = r .says ∙ then z a a o l p e ∙ no-values a in
+      (k, r .leaves ∙ ap (λ (m : ℕ). cond (eqb m 0) (rowsOf (of z o l) a a p) p) k ∙ rows-none (of z o l) a p)
+
+  -- ---- rows a to b, then b to c, are rows a to c: the one call is served where the two are, and leaves what
+  -- they leave
+  module _ (a b c : ℕ) (h : a ≤ b) (k : b ≤ c) where
+    flags : badFlags (a * z .w) (b * z .w) (l .t8s) ≡ false → badFlags (b * z .w) (c * z .w) (l .t8s) ≡ false → badFlags (a * z .w) (c * z .w) (l .t8s) ≡ false
+    flags = go (not (eqb (length (l .t8s)) 0))
+      where
+        go : (t : Bool) → (t && over 1 (a * z .w) (b * z .w) (l .t8s)) ≡ false → (t && over 1 (b * z .w) (c * z .w) (l .t8s)) ≡ false
+            → (t && over 1 (a * z .w) (c * z .w) (l .t8s)) ≡ false
+        go true e f = over-join 1 (a * z .w) (b * z .w) (b * z .w) (c * z .w) (l .t8s) (le-refl _) e f
+        go false e f = refl
+
+    levels : over 51 (qpsFrom (z .w) a b) (b * z .w) (l .qps) ≡ false → over 51 (qpsFrom (z .w) b c) (c * z .w) (l .qps) ≡ false
+        → over 51 (qpsFrom (z .w) a c) (c * z .w) (l .qps) ≡ false
+    levels e f = ⊎-elim same less (eq-or-lt-of-le h)
+      where
+        same : a ≡ b → over 51 (qpsFrom (z .w) a c) (c * z .w) (l .qps) ≡ false
+        same q = ap (λ (n : ℕ). over 51 (qpsFrom (z .w) n c) (c * z .w) (l .qps)) q ∙ f
+
+        less : a < b → over 51 (qpsFrom (z .w) a c) (c * z .w) (l .qps) ≡ false
+        less q =
+            let u : ltb a b ≡ ltb a c = lt-ltb a b q ∙ sym (lt-ltb a c (omega arith)) in
+            over-join 51 (qpsFrom (z .w) a c) (b * z .w) (qpsFrom (z .w) b c) (c * z .w) (l .qps) (before (ltb 0 b && ltb b c))
+            (sym (ap (λ (t : Bool). over 51 (cond (ltb 0 a && t) (a * z .w - z .w) (a * z .w)) (b * z .w) (l .qps)) u) ∙ e) f
+          where
+            before : (t : Bool) → cond t (b * z .w - z .w) (b * z .w) ≤ b * z .w
+            before true = omega arith
+            before false = le-refl _
+
+    values : second z a b o l p ≡ 0 → second z b c o l p ≡ 0 → second z a c o l p ≡ 0
+    values e f =
+        let s = passed (rowValues (z .w) a b l) (nonzero 7 tt, (nonzero 8 tt, (nonzero 9 tt, tt))) e in
+        let t = passed (rowValues (z .w) b c l) (nonzero 7 tt, (nonzero 8 tt, (nonzero 9 tt, tt))) f in
+        sym
+        (skip 7 (flags (s .0) (t .0))
+        (skip 8 (levels (s .1 .0) (t .1 .0))
+        (skip 9 (over-join 4 (32 * (a * z .w)) (32 * (b * z .w)) (32 * (b * z .w)) (32 * (c * z .w)) (l .strengths) (le-refl _) (s .1 .1 .0) (t .1 .1 .0)) refl)))
+
+    numbers : c ≤ z .h → first z a b o l p ≡ 0 → first z a c o l p ≡ 0
+    numbers m e =
+        let s = passed (lengthChecks z a b o l p) (numbered z a b o l p) e in
+        let r : badRange z a c ≡ false = rw (le-ltb c a (le-trans h k), le-ltb (z .h) c m) in
+        sym (skip 1 (s .0) (skip 2 r (skip 3 (s .1 .1 .0) (skip 4 (s .1 .1 .1 .0) (skip 6 (s .1 .1 .1 .1 .0) refl)))))
+
+pub joined : (z : Size) (o : Offsets) (l : Lent) (p p₁ p₂ : Planes) (a b c : ℕ)
+    → RowOutcome z a b o l p 0 p₁ → RowOutcome z b c o l p₁ 0 p₂ → RowOutcome z a c o l p 0 p₂
+joined z o l p p₁ p₂ a b c r s =
+    let e = firsts z a b o l p (sym (r .says)) in
+    let f = firsts z b c o l p₁ (sym (s .says)) in
+    let g = good-rows z a b o l p e in
+    let k = good-rows z b c o l p₁ f in
+    done z a c o l p p₂
+    (numbers z o l p a b c (g .order) (k .order) (k .line) e)
+    (values z o l p a b c (g .order) (k .order) (seconds z a b o l p (sym (r .says))) (seconds z b c o l p₁ (sym (s .says))))
+    (s .leaves ∙ ap (rowsOf (of z o l) b c) (r .leaves) ∙ rows-join (of z o l) a b c p (g .order) (k .order))

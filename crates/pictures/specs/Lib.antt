@@ -1,0 +1,2 @@
+pub mod Filtering
+pub mod Standard

@@ -18,22 +18,22 @@ use Rattle.visits.specs.Visit.{At, State}
 use Rattle.deblock.specs.Numbers.{request, kindNumber, untrueNumber}
 
 -- ---- the offsets
-pub rows-kept : (z : Size) (a b : ℕ) {o o′ : Offsets} (l : Lent) (p : Planes) (n : ℕ) (p′ : Planes) → o ≡ o′ → RowOutcome z a b o l p n p′ → RowOutcome z a b o′ l p n p′
-rows-kept z a b l p n p′ e h = subst (λ (o : Offsets). RowOutcome z a b o l p n p′) e h
+pub rows-kept : (size : Size) (a b : ℕ) {o o′ : Offsets} (l : Lent) (p : Planes) (n : ℕ) (p′ : Planes) → o ≡ o′ → RowOutcome size a b o l p n p′ → RowOutcome size a b o′ l p n p′
+rows-kept size a b l p n p′ e h = subst (λ (o : Offsets). RowOutcome size a b o l p n p′) e h
 
-pub visit-kept : (z : Size) {o o′ : Offsets} (s q t : List ℕ) (p : State Planes) (r : At) (n : ℕ) (p′ : State Planes) → o ≡ o′ → VisitOutcome (given z o s q t) p r n p′ → VisitOutcome (given z o′ s q t) p r n p′
-visit-kept z s q t p r n p′ e h = subst (λ (o : Offsets). VisitOutcome (given z o s q t) p r n p′) e h
+pub visit-kept : (size : Size) {o o′ : Offsets} (s q t : List ℕ) (p : State Planes) (r : At) (n : ℕ) (p′ : State Planes) → o ≡ o′ → VisitOutcome (given size o s q t) p r n p′ → VisitOutcome (given size o′ s q t) p r n p′
+visit-kept size s q t p r n p′ e h = subst (λ (o : Offsets). VisitOutcome (given size o s q t) p r n p′) e h
 
 -- ---- check 12
-pub kind-kept : (z : Size) (x y : ℕ) (g : Grids) {u u′ : Bool} (s : List ℕ) (n : ℕ) (s′ : List ℕ) → u ≡ u′ → Outcome z x y false g u s n s′ → Outcome z x y false g u′ s n s′
-kind-kept z x y g s n s′ e h = subst (λ (u : Bool). Outcome z x y false g u s n s′) e h
+pub kind-kept : (size : Size) (x y : ℕ) (g : Grids) {u u′ : Bool} (s : List ℕ) (n : ℕ) (s′ : List ℕ) → u ≡ u′ → Outcome size x y false g u s n s′ → Outcome size x y false g u′ s n s′
+kind-kept size x y g s n s′ e h = subst (λ (u : Bool). Outcome size x y false g u s n s′) e h
 
 -- a number above 3 is true of no grids; up to 3 it is as true as its kind
-module _ (z : Size) (x y k : ℕ) (g : Grids) where
-  pub above : 3 < k → untrueNumber z x y k g ≡ true
-  above h = ap (λ (b : Bool). b || untrueKind z (request x y (kindNumber k)) g) (lt-ltb 3 k h)
+module _ (size : Size) (x y k : ℕ) (g : Grids) where
+  pub above : 3 < k → untrueNumber size x y k g ≡ true
+  above h = ap (λ (b : Bool). b || untrueKind size (request x y (kindNumber k)) g) (lt-ltb 3 k h)
 
-  pub upto : (kind : MbKind) → k ≤ 3 → kind ≡ kindNumber k → untrueKind z (request x y kind) g ≡ untrueNumber z x y k g
+  pub upto : (kind : MbKind) → k ≤ 3 → kind ≡ kindNumber k → untrueKind size (request x y kind) g ≡ untrueNumber size x y k g
   upto kind h e =
-      ap (λ (m : MbKind). untrueKind z (request x y m) g) e
-      ∙ sym (ap (λ (b : Bool). b || untrueKind z (request x y (kindNumber k)) g) (le-ltb 3 k h))
+      ap (λ (m : MbKind). untrueKind size (request x y m) g) e
+      ∙ sym (ap (λ (b : Bool). b || untrueKind size (request x y (kindNumber k)) g) (le-ltb 3 k h))

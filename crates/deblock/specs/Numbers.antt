@@ -14,8 +14,8 @@ use Rattle.strengths.specs.declared.kinds.Plain.{Plain}
 use Rattle.strengths.specs.declared.kinds.Request.{Request}
 
 -- a picture's sides
-abbrev pub size : ℕ → ℕ → Size
-size w h = record { w = w; h = h }
+abbrev pub sizeOf : ℕ → ℕ → Size
+sizeOf w h = record { w = w; h = h }
 
 -- the three offsets
 abbrev pub offsets : ℤ → ℤ → ℤ → Offsets
@@ -43,4 +43,4 @@ kindNumber k = cond (eqb k 0) Intra (cond (eqb k 1) Skip (cond (eqb k 2) InterUn
 
 -- 12: a number above 3 is a kind that is true of no grids
 abbrev pub untrueNumber : Size → ℕ → ℕ → ℕ → Grids → Bool
-untrueNumber z x y k g = ltb 3 k || untrueKind z (request x y (kindNumber k)) g
+untrueNumber size x y k g = ltb 3 k || untrueKind size (request x y (kindNumber k)) g

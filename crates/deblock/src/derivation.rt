@@ -3,7 +3,7 @@ ghost use mathlib.Core.Path.{_≡_};
 ghost use mathlib.Core.Bool.{false};
 ghost use Rattle.motion.specs.Grids.{grids};
 ghost use Rattle.strengths.specs.Calls.{Outcome, FlagsOutcome, PlainOutcome};
-ghost use Rattle.deblock.specs.Numbers.{size, plain, flagged, kindNumber, untrueNumber};
+ghost use Rattle.deblock.specs.Numbers.{sizeOf, plain, flagged, kindNumber, untrueNumber};
 use edges::Size;
 use strengths::calls::derive_mb;
 use strengths::calls::derive_mb_bs;
@@ -30,11 +30,11 @@ pub extern "C" fn deblock_strengths<'a>(
     mv1: &'a [i16],
     strengths: &mut [u8],
 ) -> u32
-    ensures { λ n. ⌜ PlainOutcome (size w h) (plain x y t8) (grids (now (inter .entry)) (now (nnz .entry)) (now (ref0 .entry)) (now (mv0 .entry)) (now (ref1 .entry)) (now (mv1 .entry))) (now (strengths .entry)) n (now (strengths .exit)) ⌝ }
+    ensures { λ n. ⌜ PlainOutcome (sizeOf w h) (plain x y t8) (grids (now (inter .entry)) (now (nnz .entry)) (now (ref0 .entry)) (now (mv0 .entry)) (now (ref1 .entry)) (now (mv1 .entry))) (now (strengths .entry)) n (now (strengths .exit)) ⌝ }
 {
-    let z = Size { w, h };
+    let size = Size { w, h };
     let p = Plain { x, y, t8: t8 != 0 };
-    derive_mb(z, p, inter, nnz, ref0, mv0, ref1, mv1, strengths)
+    derive_mb(size, p, inter, nnz, ref0, mv0, ref1, mv1, strengths)
 }
 
 // Strengths with flags that the caller sets where they are true.
@@ -55,9 +55,9 @@ pub extern "C" fn deblock_strengths_flags<'a>(
     mv1: &'a [i16],
     strengths: &mut [u8],
 ) -> u32
-    ensures { λ n. ⌜ FlagsOutcome (size w h) (flagged x y flat uniform t8) (grids (now (inter .entry)) (now (nnz .entry)) (now (ref0 .entry)) (now (mv0 .entry)) (now (ref1 .entry)) (now (mv1 .entry))) (now (strengths .entry)) n (now (strengths .exit)) ⌝ }
+    ensures { λ n. ⌜ FlagsOutcome (sizeOf w h) (flagged x y flat uniform t8) (grids (now (inter .entry)) (now (nnz .entry)) (now (ref0 .entry)) (now (mv0 .entry)) (now (ref1 .entry)) (now (mv1 .entry))) (now (strengths .entry)) n (now (strengths .exit)) ⌝ }
 {
-    let z = Size { w, h };
+    let size = Size { w, h };
     let f = Flagged {
         x,
         y,
@@ -65,7 +65,7 @@ pub extern "C" fn deblock_strengths_flags<'a>(
         uniform: uniform != 0,
         t8: t8 != 0,
     };
-    derive_mb_bs(z, f, inter, nnz, ref0, mv0, ref1, mv1, strengths)
+    derive_mb_bs(size, f, inter, nnz, ref0, mv0, ref1, mv1, strengths)
 }
 
 // The kind that a number up to 3 stands for.
@@ -100,14 +100,25 @@ pub extern "C" fn deblock_strengths_kind<'a>(
     mv1: &'a [i16],
     strengths: &mut [u8],
 ) -> u32
-    ensures { λ n. ⌜ Outcome (size w h) x y false (grids (now (inter .entry)) (now (nnz .entry)) (now (ref0 .entry)) (now (mv0 .entry)) (now (ref1 .entry)) (now (mv1 .entry))) (untrueNumber (size w h) x y kind (grids (now (inter .entry)) (now (nnz .entry)) (now (ref0 .entry)) (now (mv0 .entry)) (now (ref1 .entry)) (now (mv1 .entry)))) (now (strengths .entry)) n (now (strengths .exit)) ⌝ }
+    ensures { λ n. ⌜ Outcome (sizeOf w h) x y false (grids (now (inter .entry)) (now (nnz .entry)) (now (ref0 .entry)) (now (mv0 .entry)) (now (ref1 .entry)) (now (mv1 .entry))) (untrueNumber (sizeOf w h) x y kind (grids (now (inter .entry)) (now (nnz .entry)) (now (ref0 .entry)) (now (mv0 .entry)) (now (ref1 .entry)) (now (mv1 .entry)))) (now (strengths .entry)) n (now (strengths .exit)) ⌝ }
 {
-    let z = Size { w, h };
+    let size = Size { w, h };
     if 3 < kind {
-        let n = refuse(z, x, y, strengths.len(), inter, nnz, ref0, mv0, ref1, mv1);
+        let n = refuse(
+            size,
+            x,
+            y,
+            strengths.len(),
+            inter,
+            nnz,
+            ref0,
+            mv0,
+            ref1,
+            mv1,
+        );
         return if n != 0 { n } else { 12 };
     }
     let kind = kind_of_number(kind);
     let r = Request { x, y, kind };
-    derive_mb_kind(z, r, inter, nnz, ref0, mv0, ref1, mv1, strengths)
+    derive_mb_kind(size, r, inter, nnz, ref0, mv0, ref1, mv1, strengths)
 }

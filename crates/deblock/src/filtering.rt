@@ -1,7 +1,7 @@
 // The calls that filter rows, for C.
 ghost use Rattle.edges.specs.Picture.{planes};
 ghost use Rattle.pictures.specs.Filtering.{lent, RowOutcome, FrameOutcome};
-ghost use Rattle.deblock.specs.Numbers.{size, offsets};
+ghost use Rattle.deblock.specs.Numbers.{sizeOf, offsets};
 use edges::Offsets;
 use edges::Size;
 use pictures::rows::filter_frame;
@@ -22,11 +22,11 @@ pub extern "C" fn deblock_frame(
     qps: &[u8],
     t8s: &[u8],
 ) -> u32
-    ensures { λ n. ⌜ FrameOutcome (size w h) (offsets a b chroma) (lent (now (strengths .entry)) (now (qps .entry)) (now (t8s .entry))) (planes (now (y .entry)) (now (u .entry)) (now (v .entry))) n (planes (now (y .exit)) (now (u .exit)) (now (v .exit))) ⌝ }
+    ensures { λ n. ⌜ FrameOutcome (sizeOf w h) (offsets a b chroma) (lent (now (strengths .entry)) (now (qps .entry)) (now (t8s .entry))) (planes (now (y .entry)) (now (u .entry)) (now (v .entry))) n (planes (now (y .exit)) (now (u .exit)) (now (v .exit))) ⌝ }
 {
-    let z = Size { w, h };
+    let size = Size { w, h };
     let o = Offsets { a, b, chroma };
-    filter_frame(z, o, y, u, v, strengths, qps, t8s)
+    filter_frame(size, o, y, u, v, strengths, qps, t8s)
 }
 
 // Rows first to last, the last not among them.
@@ -46,9 +46,9 @@ pub extern "C" fn deblock_rows(
     qps: &[u8],
     t8s: &[u8],
 ) -> u32
-    ensures { λ n. ⌜ RowOutcome (size w h) first last (offsets a b chroma) (lent (now (strengths .entry)) (now (qps .entry)) (now (t8s .entry))) (planes (now (y .entry)) (now (u .entry)) (now (v .entry))) n (planes (now (y .exit)) (now (u .exit)) (now (v .exit))) ⌝ }
+    ensures { λ n. ⌜ RowOutcome (sizeOf w h) first last (offsets a b chroma) (lent (now (strengths .entry)) (now (qps .entry)) (now (t8s .entry))) (planes (now (y .entry)) (now (u .entry)) (now (v .entry))) n (planes (now (y .exit)) (now (u .exit)) (now (v .exit))) ⌝ }
 {
-    let z = Size { w, h };
+    let size = Size { w, h };
     let o = Offsets { a, b, chroma };
-    filter_frame_rows(z, first, last, o, y, u, v, strengths, qps, t8s)
+    filter_frame_rows(size, first, last, o, y, u, v, strengths, qps, t8s)
 }

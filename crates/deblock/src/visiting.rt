@@ -2,7 +2,7 @@
 ghost use Rattle.edges.specs.Picture.{planes};
 ghost use Rattle.visits.specs.Checks.{given};
 ghost use Rattle.visits.specs.Promise.{VisitOutcome};
-ghost use Rattle.deblock.specs.Numbers.{size, offsets};
+ghost use Rattle.deblock.specs.Numbers.{sizeOf, offsets};
 use edges::Offsets;
 use edges::Size;
 use visits::visits::visit;
@@ -25,9 +25,9 @@ pub extern "C" fn deblock_visit(
     t8s: &[u8],
     marks: &mut [u8],
 ) -> u32
-    ensures { λ n. ⌜ VisitOutcome (given (size w h) (offsets a b chroma) (now (strengths .entry)) (now (qps .entry)) (now (t8s .entry))) (planes (now (y .entry)) (now (u .entry)) (now (v .entry)), now (marks .entry)) («mb_x», «mb_y») n (planes (now (y .exit)) (now (u .exit)) (now (v .exit)), now (marks .exit)) ⌝ }
+    ensures { λ n. ⌜ VisitOutcome (given (sizeOf w h) (offsets a b chroma) (now (strengths .entry)) (now (qps .entry)) (now (t8s .entry))) (planes (now (y .entry)) (now (u .entry)) (now (v .entry)), now (marks .entry)) («mb_x», «mb_y») n (planes (now (y .exit)) (now (u .exit)) (now (v .exit)), now (marks .exit)) ⌝ }
 {
-    let z = Size { w, h };
+    let size = Size { w, h };
     let o = Offsets { a, b, chroma };
-    visit(z, mb_x, mb_y, o, y, u, v, strengths, qps, t8s, marks)
+    visit(size, mb_x, mb_y, o, y, u, v, strengths, qps, t8s, marks)
 }

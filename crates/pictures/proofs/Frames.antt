@@ -20,43 +20,43 @@ use Rattle.edges.specs.declared.Size.{Size}
 use Rattle.strengths.proofs.Sized.{Sized, sized}
 use Rattle.pictures.specs.Filtering.{Lent, rowNumbers, rowValues, rowAnswer, RowOutcome}
 
-pub record Good (z : Size) (a b y u v strengths qps t8s : ℕ) : Type 0 where
-  pub size : Sized z
+pub record Good (size : Size) (a b y u v strengths qps t8s : ℕ) : Type 0 where
+  pub sides : Sized size
   pub order : a ≤ b
-  pub line : b ≤ z .h
-  pub luma : y ≡ 256 * (z .w * z .h)
-  pub cb : u ≡ 64 * (z .w * z .h)
-  pub cr : v ≡ 64 * (z .w * z .h)
-  pub strength : strengths ≡ 32 * (z .w * z .h)
-  pub qp : qps ≡ z .w * z .h
-  pub flag : eqb t8s 0 ≡ false → t8s ≡ z .w * z .h
+  pub line : b ≤ size .h
+  pub luma : y ≡ 256 * (size .w * size .h)
+  pub cb : u ≡ 64 * (size .w * size .h)
+  pub cr : v ≡ 64 * (size .w * size .h)
+  pub strength : strengths ≡ 32 * (size .w * size .h)
+  pub qp : qps ≡ size .w * size .h
+  pub flag : eqb t8s 0 ≡ false → t8s ≡ size .w * size .h
 
-module _ (z : Size) (a b : ℕ) (o : Offsets) (y u v strengths qps t8s : ℕ) where
-  five : Numbered (rowNumbers z a b o y u v strengths qps t8s)
+module _ (size : Size) (a b : ℕ) (o : Offsets) (y u v strengths qps t8s : ℕ) where
+  five : Numbered (rowNumbers size a b o y u v strengths qps t8s)
   five = (nonzero 1 tt, (nonzero 2 tt, (nonzero 3 tt, (nonzero 4 tt, (nonzero 6 tt, tt)))))
 
-  pub good : refusal (rowNumbers z a b o y u v strengths qps t8s) ≡ 0 → Good z a b y u v strengths qps t8s
+  pub good : refusal (rowNumbers size a b o y u v strengths qps t8s) ≡ 0 → Good size a b y u v strengths qps t8s
   good e =
-      let p = passed (rowNumbers z a b o y u v strengths qps t8s) five e in
-      let r = or-false (ltb b a) (ltb (z .h) b) (p .1 .0) in
+      let p = passed (rowNumbers size a b o y u v strengths qps t8s) five e in
+      let r = or-false (ltb b a) (ltb (size .h) b) (p .1 .0) in
       let q = or-false _ _ (p .1 .1 .0) in
       let qq = or-false _ _ (q .0) in
       let l = or-false _ _ (p .1 .1 .1 .0) in
       let ll = or-false _ _ (l .0) in
       record {
-        size = sized z (p .0);
+        sides = sized size (p .0);
         order = ltb-false b a (r .0);
-        line = ltb-false (z .h) b (r .1);
+        line = ltb-false (size .h) b (r .1);
         luma = equal _ _ (qq .0);
         cb = equal _ _ (qq .1);
         cr = equal _ _ (q .1);
         strength = equal _ _ (ll .0);
         qp = equal _ _ (ll .1);
-        flag = full t8s (z .w * z .h) (l .1);
+        flag = full t8s (size .w * size .h) (l .1);
       }
 
-module _ (z : Size) (a b y u v strengths qps t8s : ℕ) (g : Good z a b y u v strengths qps t8s) where
-  pub room : Room (z .w * z .h) y u v qps t8s strengths
+module _ (size : Size) (a b y u v strengths qps t8s : ℕ) (g : Good size a b y u v strengths qps t8s) where
+  pub room : Room (size .w * size .h) y u v qps t8s strengths
   room =
       let p = g .luma in
       let q = g .cb in
@@ -65,54 +65,54 @@ module _ (z : Size) (a b y u v strengths qps t8s : ℕ) (g : Good z a b y u v st
       let t = g .qp in
       record { luma = omega arith; cb = omega arith; cr = omega arith; qp = omega arith; flag = λ f. let k = g .flag f in omega arith; strength = omega arith }
 
-  pub ends : b * z .w ≤ z .w * z .h
-  ends = let k = mul-le-mul-right (z .w) (g .line) in omega (arith, mul-comm (z .w) (z .h))
+  pub ends : b * size .w ≤ size .w * size .h
+  ends = let k = mul-le-mul-right (size .w) (g .line) in omega (arith, mul-comm (size .w) (size .h))
 
-module _ (z : Size) (a b : ℕ) (o : Offsets) (l : Lent) (p : Planes) where
+module _ (size : Size) (a b : ℕ) (o : Offsets) (l : Lent) (p : Planes) where
   abbrev pub lengthChecks : List (ℕ × Bool)
-  lengthChecks = rowNumbers z a b o (length (p .y)) (length (p .u)) (length (p .v)) (length (l .strengths)) (length (l .qps)) (length (l .t8s))
+  lengthChecks = rowNumbers size a b o (length (p .luma)) (length (p .u)) (length (p .v)) (length (l .strengths)) (length (l .qps)) (length (l .t8s))
 
   pub numbered : Numbered lengthChecks
-  numbered = five z a b o (length (p .y)) (length (p .u)) (length (p .v)) (length (l .strengths)) (length (l .qps)) (length (l .t8s))
+  numbered = five size a b o (length (p .luma)) (length (p .u)) (length (p .v)) (length (l .strengths)) (length (l .qps)) (length (l .t8s))
 
   abbrev pub first : ℕ
   first = refusal lengthChecks
 
   abbrev pub second : ℕ
-  second = refusal (rowValues (z .w) a b l)
+  second = refusal (rowValues (size .w) a b l)
 
-  pub good-rows : first ≡ 0 → Good z a b (length (p .y)) (length (p .u)) (length (p .v)) (length (l .strengths)) (length (l .qps)) (length (l .t8s))
-  good-rows e = good z a b o (length (p .y)) (length (p .u)) (length (p .v)) (length (l .strengths)) (length (l .qps)) (length (l .t8s)) e
+  pub good-rows : first ≡ 0 → Good size a b (length (p .luma)) (length (p .u)) (length (p .v)) (length (l .strengths)) (length (l .qps)) (length (l .t8s))
+  good-rows e = good size a b o (length (p .luma)) (length (p .u)) (length (p .v)) (length (l .strengths)) (length (l .qps)) (length (l .t8s)) e
 
-  cut : rowAnswer z a b o p l ≡ cond (eqb first 0) second first
+  cut : rowAnswer size a b o p l ≡ cond (eqb first 0) second first
   unfolding rowAnswer
-  cut = refusal-cut lengthChecks (rowValues (z .w) a b l) numbered
+  cut = refusal-cut lengthChecks (rowValues (size .w) a b l) numbered
 
-  pub refused-first : (n : ℕ) → n ≡ first → (n ≡ 0 → ⊥) → RowOutcome z a b o l p n p
+  pub refused-first : (n : ℕ) → n ≡ first → (n ≡ 0 → ⊥) → RowOutcome size a b o l p n p
   refused-first n e h = record {
     says = e ∙ sym (cut ∙ ap (λ (t : Bool). cond t second first) (ne-eqb _ 0 (λ k. h (e ∙ k))));
     leaves = rw (ne-eqb n 0 h);
   }
 
-  pub then : first ≡ 0 → rowAnswer z a b o p l ≡ second
+  pub then : first ≡ 0 → rowAnswer size a b o p l ≡ second
   then e = cut ∙ ap (λ (k : ℕ). cond (eqb k 0) second k) e
 
   -- the answer 0: no check applies
-  pub firsts : rowAnswer z a b o p l ≡ 0 → first ≡ 0
+  pub firsts : rowAnswer size a b o p l ≡ 0 → first ≡ 0
   unfolding rowAnswer
-  firsts e = refusal-left lengthChecks (rowValues (z .w) a b l) numbered e
+  firsts e = refusal-left lengthChecks (rowValues (size .w) a b l) numbered e
 
-  pub seconds : rowAnswer z a b o p l ≡ 0 → second ≡ 0
+  pub seconds : rowAnswer size a b o p l ≡ 0 → second ≡ 0
   seconds e = sym (then (firsts e)) ∙ e
 
-  pub refused-second : (n : ℕ) → first ≡ 0 → n ≡ second → (n ≡ 0 → ⊥) → RowOutcome z a b o l p n p
+  pub refused-second : (n : ℕ) → first ≡ 0 → n ≡ second → (n ≡ 0 → ⊥) → RowOutcome size a b o l p n p
   refused-second n e f h = record { says = f ∙ sym (then e); leaves = rw (ne-eqb n 0 h) }
 
-  pub done : (p′ : Planes) → first ≡ 0 → second ≡ 0 → p′ ≡ rowsOf (held (z .w) (l .strengths) (l .qps) (l .t8s) o) a b p → RowOutcome z a b o l p 0 p′
+  pub done : (p′ : Planes) → first ≡ 0 → second ≡ 0 → p′ ≡ rowsOf (held (size .w) (l .strengths) (l .qps) (l .t8s) o) a b p → RowOutcome size a b o l p 0 p′
   done p′ e f k = record { says = sym (then e ∙ f); leaves = k }
 
   -- two outcomes that the promise allows are equal
-  pub unique : (n m : ℕ) (p₁ p₂ : Planes) → RowOutcome z a b o l p n p₁ → RowOutcome z a b o l p m p₂ → (n ≡ m) × (p₁ ≡ p₂)
+  pub unique : (n m : ℕ) (p₁ p₂ : Planes) → RowOutcome size a b o l p n p₁ → RowOutcome size a b o l p m p₂ → (n ≡ m) × (p₁ ≡ p₂)
   unique n m p₁ p₂ s t =
       let e = s .says ∙ sym (t .says) in
-      (e, s .leaves ∙ ap (λ (k : ℕ). cond (eqb k 0) (rowsOf (held (z .w) (l .strengths) (l .qps) (l .t8s) o) a b p) p) e ∙ sym (t .leaves))
+      (e, s .leaves ∙ ap (λ (k : ℕ). cond (eqb k 0) (rowsOf (held (size .w) (l .strengths) (l .qps) (l .t8s) o) a b p) p) e ∙ sym (t .leaves))

@@ -24,60 +24,60 @@ use Rattle.strengths.specs.declared.kinds.Plain.{Plain}
 use Rattle.pictures.proofs.Whole.{whole}
 use Rattle.strengths.proofs.Written.{written-length, written-at, written-beside}
 
-module _ (g : Grids) (z : Size) (t8s : List ℕ) where
+module _ (g : Grids) (size : Size) (t8s : List ℕ) where
   -- a derived grid holds the standard's strengths, and nothing past them
-  pub derived-strengths : (s : List ℕ) → Derived g z t8s s → entries s ≡ strengthsOf g z t8s
+  pub derived-strengths : (s : List ℕ) → Derived g size t8s s → entries s ≡ strengthsOf g size t8s
   unfolding strengthsOf
-  derived-strengths s d = λ i k. at k (decLt k (32 * (z .w * z .h))) i
+  derived-strengths s d = λ i k. at k (decLt k (32 * (size .w * size .h))) i
     where
-      at : (k : ℕ) → Dec (k < 32 * (z .w * z .h)) → getD s k 0 ≡ cond (ltb k (32 * (z .w * z .h))) (ofIndex g z t8s (k / 32) (k % 32)) 0
+      at : (k : ℕ) → Dec (k < 32 * (size .w * size .h)) → getD s k 0 ≡ cond (ltb k (32 * (size .w * size .h))) (ofIndex g size t8s (k / 32) (k % 32)) 0
       at k (yes h) =
           let e : k ≡ 32 * (k / 32) + k % 32 = omega arith in
           ap (λ (n : ℕ). getD s n 0) e
           ∙ d .each (k / 32) (k % 32) (omega arith) (omega arith)
-          ∙ sym (ap (λ (b : Bool). cond b (ofIndex g z t8s (k / 32) (k % 32)) 0) (lt-ltb k (32 * (z .w * z .h)) h))
+          ∙ sym (ap (λ (b : Bool). cond b (ofIndex g size t8s (k / 32) (k % 32)) 0) (lt-ltb k (32 * (size .w * size .h)) h))
       at k (no h) =
           past s k (omega (arith, d .full))
-          ∙ sym (ap (λ (b : Bool). cond b (ofIndex g z t8s (k / 32) (k % 32)) 0) (le-ltb k (32 * (z .w * z .h)) (omega arith)))
+          ∙ sym (ap (λ (b : Bool). cond b (ofIndex g size t8s (k / 32) (k % 32)) 0) (le-ltb k (32 * (size .w * size .h)) (omega arith)))
 
   -- a picture filtered by a derived grid is the standard's
-  pub derived-picture : (qps s : List ℕ) (o : Offsets) (p : Planes) → Derived g z t8s s
-      → frameOf (held (z .w) s qps t8s o) (z .h) p ≡ pictureOf g z qps t8s o p
+  pub derived-picture : (qps s : List ℕ) (o : Offsets) (p : Planes) → Derived g size t8s s
+      → frameOf (held (size .w) s qps t8s o) (size .h) p ≡ pictureOf g size qps t8s o p
   unfolding pictureOf
-  derived-picture qps s o p d = λ i. frameOf (heldBy (z .w) (derived-strengths s d i) qps t8s o) (z .h) p
+  derived-picture qps s o p d = λ i. frameOf (heldBy (size .w) (derived-strengths s d i) qps t8s o) (size .h) p
 
   -- so is what the whole-picture call leaves of it
-  pub from-grids : (qps s : List ℕ) (o : Offsets) (p p′ : Planes) → Derived g z t8s s → FrameOutcome z o (lent s qps t8s) p 0 p′ → p′ ≡ pictureOf g z qps t8s o p
-  from-grids qps s o p p′ d r = whole z o (lent s qps t8s) p p′ r ∙ derived-picture qps s o p d
+  pub from-grids : (qps s : List ℕ) (o : Offsets) (p p′ : Planes) → Derived g size t8s s → FrameOutcome size o (lent s qps t8s) p 0 p′ → p′ ≡ pictureOf g size qps t8s o p
+  from-grids qps s o p p′ d r = whole size o (lent s qps t8s) p p′ r ∙ derived-picture qps s o p d
 
   -- ---- a derived grid is what one flagless call a macroblock leaves, in raster order, each served: s 0
   -- before the first, s n after the last
   abbrev asked : ℕ → Plain
-  asked i = record { x = i % z .w; y = i / z .w; t8 = flagAt t8s i }
+  asked i = record { x = i % size .w; y = i / size .w; t8 = flagAt t8s i }
 
-  module _ (s : ℕ → List ℕ) (room : length (s 0) ≡ 32 * (z .w * z .h))
-      (calls : (i : ℕ) → i < z .w * z .h → PlainOutcome z (asked i) g (s i) 0 (s (i + 1))) where
-    step : (i : ℕ) → i < z .w * z .h → s (suc i) ≡ written i (ofIndex g z t8s i) (s i)
-    step i h = ap s (omega arith) ∙ calls i h .leaves ∙ ap (λ (n : ℕ). written n (ofIndex g z t8s i) (s i)) (div-add-mod' i (z .w))
+  module _ (s : ℕ → List ℕ) (room : length (s 0) ≡ 32 * (size .w * size .h))
+      (calls : (i : ℕ) → i < size .w * size .h → PlainOutcome size (asked i) g (s i) 0 (s (i + 1))) where
+    step : (i : ℕ) → i < size .w * size .h → s (suc i) ≡ written i (ofIndex g size t8s i) (s i)
+    step i h = ap s (omega arith) ∙ calls i h .leaves ∙ ap (λ (n : ℕ). written n (ofIndex g size t8s i) (s i)) (div-add-mod' i (size .w))
 
-    size : (n : ℕ) → n ≤ z .w * z .h → length (s n) ≡ 32 * (z .w * z .h)
-    size zero h = room
-    size (suc n) h = ap length (step n h) ∙ written-length n (ofIndex g z t8s n) (s n) ∙ size n (omega arith)
+    filled : (n : ℕ) → n ≤ size .w * size .h → length (s n) ≡ 32 * (size .w * size .h)
+    filled zero h = room
+    filled (suc n) h = ap length (step n h) ∙ written-length n (ofIndex g size t8s n) (s n) ∙ filled n (omega arith)
 
-    holds : (n : ℕ) → n ≤ z .w * z .h → (i k : ℕ) → i < n → k < 32 → getD (s n) (32 * i + k) 0 ≡ ofIndex g z t8s i k
+    holds : (n : ℕ) → n ≤ size .w * size .h → (i k : ℕ) → i < n → k < 32 → getD (s n) (32 * i + k) 0 ≡ ofIndex g size t8s i k
     holds zero h i k l m = absurd (not-suc-le-zero l)
     holds (suc n) h i k l m =
         ap (λ (t : List ℕ). getD t (32 * i + k) 0) (step n h)
         ∙ ⊎-elim last (λ b. before b (holds n (omega arith) i k b m)) (eq-or-lt-of-le (le-of-suc-le-suc l))
       where
-        last : i ≡ n → getD (written n (ofIndex g z t8s n) (s n)) (32 * i + k) 0 ≡ ofIndex g z t8s i k
+        last : i ≡ n → getD (written n (ofIndex g size t8s n) (s n)) (32 * i + k) 0 ≡ ofIndex g size t8s i k
         last e =
-            ap (λ (j : ℕ). getD (written n (ofIndex g z t8s n) (s n)) (32 * j + k) 0) e
-            ∙ written-at n (ofIndex g z t8s n) (s n) k m (omega (arith, size n (omega arith)))
-            ∙ ap (λ (j : ℕ). ofIndex g z t8s j k) (sym e)
+            ap (λ (j : ℕ). getD (written n (ofIndex g size t8s n) (s n)) (32 * j + k) 0) e
+            ∙ written-at n (ofIndex g size t8s n) (s n) k m (omega (arith, filled n (omega arith)))
+            ∙ ap (λ (j : ℕ). ofIndex g size t8s j k) (sym e)
 
-        before : i < n → getD (s n) (32 * i + k) 0 ≡ ofIndex g z t8s i k → getD (written n (ofIndex g z t8s n) (s n)) (32 * i + k) 0 ≡ ofIndex g z t8s i k
-        before b e = written-beside n (ofIndex g z t8s n) (s n) (32 * i + k) (inl (omega arith)) ∙ e
+        before : i < n → getD (s n) (32 * i + k) 0 ≡ ofIndex g size t8s i k → getD (written n (ofIndex g size t8s n) (s n)) (32 * i + k) 0 ≡ ofIndex g size t8s i k
+        before b e = written-beside n (ofIndex g size t8s n) (s n) (32 * i + k) (inl (omega arith)) ∙ e
 
-    pub derived : Derived g z t8s (s (z .w * z .h))
-    derived = record { full = size (z .w * z .h) (le-refl _); each = holds (z .w * z .h) (le-refl _) }
+    pub derived : Derived g size t8s (s (size .w * size .h))
+    derived = record { full = filled (size .w * size .h) (le-refl _); each = holds (size .w * size .h) (le-refl _) }

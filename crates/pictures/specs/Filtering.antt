@@ -34,7 +34,7 @@ badLent n strengths qps t8s = not (eqb strengths (32 * n)) || not (eqb qps n) ||
 
 -- 6: an offset is out of range
 abbrev pub badOffset : ℤ → Bool
-badOffset z = ltZ z (negsuc 11) || ltZ (pos 12) z
+badOffset o = ltZ o (negsuc 11) || ltZ (pos 12) o
 
 abbrev pub badOffsets : Offsets → Bool
 badOffsets o = badOffset (o .a) || badOffset (o .b) || badOffset (o .chroma)
@@ -46,17 +46,17 @@ over top a b xs = some (b - a) (λ i. ltb top (getD xs (a + i) 0))
 -- ---- rows a to b, of which b is not one. They read their strengths, flags and QPs, and the QPs of row a - 1
 -- where there is one and the range is not empty
 abbrev pub badRange : Size → ℕ → ℕ → Bool
-badRange z a b = ltb b a || ltb (z .h) b
+badRange size a b = ltb b a || ltb (size .h) b
 
 abbrev pub qpsFrom : ℕ → ℕ → ℕ → ℕ
 qpsFrom w a b = cond (ltb 0 a && ltb a b) (a * w - w) (a * w)
 
 abbrev pub rowNumbers : Size → ℕ → ℕ → Offsets → ℕ → ℕ → ℕ → ℕ → ℕ → ℕ → List (ℕ × Bool)
-rowNumbers z a b o y u v strengths qps t8s =
-    (1, badSize z)
-    ∷ (2, badRange z a b)
-    ∷ (3, badPlanes (z .w * z .h) y u v)
-    ∷ (4, badLent (z .w * z .h) strengths qps t8s)
+rowNumbers size a b o y u v strengths qps t8s =
+    (1, badSize size)
+    ∷ (2, badRange size a b)
+    ∷ (3, badPlanes (size .w * size .h) y u v)
+    ∷ (4, badLent (size .w * size .h) strengths qps t8s)
     ∷ (6, badOffsets o)
     ∷ []
 
@@ -72,21 +72,21 @@ rowValues w a b l =
     ∷ []
 
 abbrev pub rowChecks : Size → ℕ → ℕ → Offsets → Planes → Lent → List (ℕ × Bool)
-rowChecks z a b o p l =
-    rowNumbers z a b o (length (p .y)) (length (p .u)) (length (p .v)) (length (l .strengths)) (length (l .qps)) (length (l .t8s))
-    ++ rowValues (z .w) a b l
+rowChecks size a b o p l =
+    rowNumbers size a b o (length (p .luma)) (length (p .u)) (length (p .v)) (length (l .strengths)) (length (l .qps)) (length (l .t8s))
+    ++ rowValues (size .w) a b l
 
 -- one grey macroblock with strengths 0 and QP 30 gets 0; with QP 52 it gets 8, and with strengths 5 too,
 -- still 8 (proofs/Examples)
 unfoldable pub rowAnswer : Size → ℕ → ℕ → Offsets → Planes → Lent → ℕ
-rowAnswer z a b o p l = refusal (rowChecks z a b o p l)
+rowAnswer size a b o p l = refusal (rowChecks size a b o p l)
 
 -- an outcome: the answer n, and the planes before and after. A refusal leaves them as they were; the rest is
 -- only read
-pub record RowOutcome (z : Size) (a b : ℕ) (o : Offsets) (l : Lent) (p : Planes) (n : ℕ) (p′ : Planes) : Type 0 where
-  pub says : n ≡ rowAnswer z a b o p l
-  pub leaves : p′ ≡ cond (eqb n 0) (rowsOf (held (z .w) (l .strengths) (l .qps) (l .t8s) o) a b p) p
+pub record RowOutcome (size : Size) (a b : ℕ) (o : Offsets) (l : Lent) (p : Planes) (n : ℕ) (p′ : Planes) : Type 0 where
+  pub says : n ≡ rowAnswer size a b o p l
+  pub leaves : p′ ≡ cond (eqb n 0) (rowsOf (held (size .w) (l .strengths) (l .qps) (l .t8s) o) a b p) p
 
 -- a whole picture is rows 0 to H, of which H is not one
 abbrev pub FrameOutcome : Size → Offsets → Lent → Planes → ℕ → Planes → Type 0
-FrameOutcome z o l p n p′ = RowOutcome z 0 (z .h) o l p n p′
+FrameOutcome size o l p n p′ = RowOutcome size 0 (size .h) o l p n p′

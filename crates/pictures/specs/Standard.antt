@@ -14,18 +14,18 @@ use Rattle.strengths.specs.Strength.{strengthAt}
 
 -- byte k of the macroblock of index i; outside the picture there is none
 abbrev pub ofIndex : Grids → Size → List ℕ → ℕ → ℕ → ℕ
-ofIndex g z t8s i k = strengthAt g (z .w) (flagAt t8s i) (i % z .w) (i / z .w) k
+ofIndex g size t8s i k = strengthAt g (size .w) (flagAt t8s i) (i % size .w) (i / size .w) k
 
 unfoldable pub strengthsOf : Grids → Size → List ℕ → ℕ → ℕ
-strengthsOf g z t8s k = cond (ltb k (32 * (z .w * z .h))) (ofIndex g z t8s (k / 32) (k % 32)) 0
+strengthsOf g size t8s k = cond (ltb k (32 * (size .w * size .h))) (ofIndex g size t8s (k / 32) (k % 32)) 0
 
 abbrev pub standard : Grids → Size → List ℕ → List ℕ → Offsets → Held
-standard g z qps t8s = heldBy (z .w) (strengthsOf g z t8s) qps t8s
+standard g size qps t8s = heldBy (size .w) (strengthsOf g size t8s) qps t8s
 
 unfoldable pub pictureOf : Grids → Size → List ℕ → List ℕ → Offsets → Planes → Planes
-pictureOf g z qps t8s o = frameOf (standard g z qps t8s o) (z .h)
+pictureOf g size qps t8s o = frameOf (standard g size qps t8s o) (size .h)
 
 -- a grid that holds what the flagless call writes for every macroblock
-pub record Derived (g : Grids) (z : Size) (t8s s : List ℕ) : Type 0 where
-  pub full : length s ≡ 32 * (z .w * z .h)
-  pub each : (i k : ℕ) → i < z .w * z .h → k < 32 → getD s (32 * i + k) 0 ≡ ofIndex g z t8s i k
+pub record Derived (g : Grids) (size : Size) (t8s s : List ℕ) : Type 0 where
+  pub full : length s ≡ 32 * (size .w * size .h)
+  pub each : (i k : ℕ) → i < size .w * size .h → k < 32 → getD s (32 * i + k) 0 ≡ ofIndex g size t8s i k

@@ -19,7 +19,7 @@ use strengths::checks::bad_size;
 
 // Checks 1 to 6, which read lengths alone.
 fn bad_numbers(
-    z: Size,
+    size: Size,
     a: usize,
     b: usize,
     o: Offsets,
@@ -30,13 +30,13 @@ fn bad_numbers(
     qps: usize,
     t8s: usize,
 ) -> u32
-    ensures { λ r. ⌜ r ≡ refusal (rowNumbers z a b o y u v strengths qps t8s) ⌝ }
+    ensures { λ r. ⌜ r ≡ refusal (rowNumbers size a b o y u v strengths qps t8s) ⌝ }
 {
-    if bad_size(z) {
+    if bad_size(size) {
         return 1;
     }
-    let w = z.w;
-    let h = z.h;
+    let w = size.w;
+    let h = size.h;
     if (b < a) | (h < b) {
         return 2;
     }
@@ -99,7 +99,7 @@ fn bad_values(w: usize, a: usize, b: usize, strengths: &[u8], qps: &[u8], t8s: &
 
 // Rows a to b, of which b is not one. They read what lies in them, and the QPs of the row before them.
 pub fn filter_frame_rows(
-    z: Size,
+    size: Size,
     a: usize,
     b: usize,
     o: Offsets,
@@ -110,10 +110,10 @@ pub fn filter_frame_rows(
     qps: &[u8],
     t8s: &[u8],
 ) -> u32
-    ensures { λ n. ⌜ RowOutcome z a b o (lent (now (strengths .entry)) (now (qps .entry)) (now (t8s .entry))) (planes (now (y .entry)) (now (u .entry)) (now (v .entry))) n (planes (now (y .exit)) (now (u .exit)) (now (v .exit))) ⌝ }
+    ensures { λ n. ⌜ RowOutcome size a b o (lent (now (strengths .entry)) (now (qps .entry)) (now (t8s .entry))) (planes (now (y .entry)) (now (u .entry)) (now (v .entry))) n (planes (now (y .exit)) (now (u .exit)) (now (v .exit))) ⌝ }
 {
     let n = bad_numbers(
-        z,
+        size,
         a,
         b,
         o,
@@ -127,18 +127,18 @@ pub fn filter_frame_rows(
     if n != 0 {
         return n;
     }
-    let m = bad_values(z.w, a, b, strengths, qps, t8s);
+    let m = bad_values(size.w, a, b, strengths, qps, t8s);
     if m != 0 {
         return m;
     }
     let t = all();
-    rows(y, u, v, &t, z, a, b, qps, t8s, strengths, o);
+    rows(y, u, v, &t, size, a, b, qps, t8s, strengths, o);
     0
 }
 
 // A whole picture.
 pub fn filter_frame(
-    z: Size,
+    size: Size,
     o: Offsets,
     y: &mut [u8],
     u: &mut [u8],
@@ -147,7 +147,7 @@ pub fn filter_frame(
     qps: &[u8],
     t8s: &[u8],
 ) -> u32
-    ensures { λ n. ⌜ FrameOutcome z o (lent (now (strengths .entry)) (now (qps .entry)) (now (t8s .entry))) (planes (now (y .entry)) (now (u .entry)) (now (v .entry))) n (planes (now (y .exit)) (now (u .exit)) (now (v .exit))) ⌝ }
+    ensures { λ n. ⌜ FrameOutcome size o (lent (now (strengths .entry)) (now (qps .entry)) (now (t8s .entry))) (planes (now (y .entry)) (now (u .entry)) (now (v .entry))) n (planes (now (y .exit)) (now (u .exit)) (now (v .exit))) ⌝ }
 {
-    filter_frame_rows(z, 0, z.h, o, y, u, v, strengths, qps, t8s)
+    filter_frame_rows(size, 0, size.h, o, y, u, v, strengths, qps, t8s)
 }

@@ -20,11 +20,11 @@ abbrev Compares : (Planes → Planes → Bool) → Type 0
 Compares f = (p q : Planes) → (f p q ≡ true) ↔ (p ≡ q)
 
 differ : none ≡ one → ⊥
-differ e = let z : _≡_ {A = ℕ} 0 1 = ap (λ (p : Planes). getD (p .v) 0 0) e in omega arith
+differ e = let size : _≡_ {A = ℕ} 0 1 = ap (λ (p : Planes). getD (p .v) 0 0) e in omega arith
 
 -- it does not look at the lengths alone
 pub by-length : (f : Planes → Planes → Bool) → Compares f
-    → ((p q : Planes) → length (p .y) ≡ length (q .y) → length (p .u) ≡ length (q .u) → length (p .v) ≡ length (q .v) → f p q ≡ true) → ⊥
+    → ((p q : Planes) → length (p .luma) ≡ length (q .luma) → length (p .u) ≡ length (q .u) → length (p .v) ≡ length (q .v) → f p q ≡ true) → ⊥
 by-length f says alike = differ (says none one .0 (alike none one refl refl refl))
 
 -- nor does it leave V out

@@ -31,7 +31,7 @@ module _ {y u v y′ u′ v′ : List ℕ} where
   same-planes a b c p q r =
       let all = both (a && b) c (both a b p q) r in (
         λ t. let h = all .0 t in planes-of (h .0 .0) (h .0 .1) (h .1),
-        λ e. all .1 ((ap (λ (s : Planes). s .y) e, ap (λ (s : Planes). s .u) e), ap (λ (s : Planes). s .v) e),
+        λ e. all .1 ((ap (λ (s : Planes). s .luma) e, ap (λ (s : Planes). s .u) e), ap (λ (s : Planes). s .v) e),
       )
 
 -- the two tests of a way
@@ -61,8 +61,8 @@ zeros-length n = length-replicate n 0
 whole : (k : ℕ) (s : List ℕ) → length s ≡ k → copied (zeros k) s ≡ s
 whole k s e = rw (eq-eqb (length (zeros k)) (length s) (zeros-length k ∙ sym e))
 
-pub start-is : (n : ℕ) (p : Planes) → length (p .y) ≡ 256 * n → length (p .u) ≡ 64 * n → length (p .v) ≡ 64 * n → startOf n p ≡ (p, zeros n)
-start-is n p e f g = rw (whole (256 * n) (p .y) e, whole (64 * n) (p .u) f, whole (64 * n) (p .v) g)
+pub start-is : (n : ℕ) (p : Planes) → length (p .luma) ≡ 256 * n → length (p .u) ≡ 64 * n → length (p .v) ≡ 64 * n → startOf n p ≡ (p, zeros n)
+start-is n p e f g = rw (whole (256 * n) (p .luma) e, whole (64 * n) (p .u) f, whole (64 * n) (p .v) g)
 
 -- ---- a way in spaces of 120 macroblocks
 module _ (way : Way) (d : Given) (n : ℕ) (before after : Planes) where
@@ -70,14 +70,14 @@ module _ (way : Way) (d : Given) (n : ℕ) (before after : Planes) where
   too-large h = (λ e. absurd (false≢true e), λ k. let s = k .small in absurd (omega arith))
 
   pub in-space : (y u v marks : List ℕ) (r : Bool) → n ≤ 120 → y ≡ zeros 30720 → u ≡ zeros 7680 → v ≡ zeros 7680 → marks ≡ zeros 120
-      → (r ≡ true) ↔ Becomes way d n (planes (copied (take (256 * n) y) (before .y)) (copied (take (64 * n) u) (before .u)) (copied (take (64 * n) v) (before .v)), take n marks) after
+      → (r ≡ true) ↔ Becomes way d n (planes (copied (take (256 * n) y) (before .luma)) (copied (take (64 * n) u) (before .u)) (copied (take (64 * n) v) (before .v)), take n marks) after
       → (r ≡ true) ↔ ComesOut way d n before after
   in-space y u v marks r h ey eu ev em b =
       let f : take (256 * n) y ≡ zeros (256 * n) = rw ey (take-zeros (256 * n) 30720 (omega arith)) in
       let g : take (64 * n) u ≡ zeros (64 * n) = rw eu (take-zeros (64 * n) 7680 (omega arith)) in
       let k : take (64 * n) v ≡ zeros (64 * n) = rw ev (take-zeros (64 * n) 7680 (omega arith)) in
       let m : take n marks ≡ zeros n = rw em (take-zeros n 120 h) in
-      let e : _≡_ {A = State Planes} (planes (copied (take (256 * n) y) (before .y)) (copied (take (64 * n) u) (before .u)) (copied (take (64 * n) v) (before .v)), take n marks) (startOf n before) = rw (f, g, k, m) in (
+      let e : _≡_ {A = State Planes} (planes (copied (take (256 * n) y) (before .luma)) (copied (take (64 * n) u) (before .u)) (copied (take (64 * n) v) (before .v)), take n marks) (startOf n before) = rw (f, g, k, m) in (
         λ t. record { small = h; becomes = subst (λ (s : State Planes). Becomes way d n s after) e (b .0 t) },
         λ t. b .1 (subst (λ (s : State Planes). Becomes way d n s after) (sym e) (t .becomes)),
       )

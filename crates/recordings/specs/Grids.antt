@@ -14,10 +14,10 @@ use Rattle.strengths.specs.Calls.{answerOf}
 use Rattle.strengths.specs.Strength.{strengthAt, written}
 use Rattle.recordings.specs.Places.{columnAt, rowAt}
 
-module _ (z : Size) (g : Grids) (t8s : List ℕ) where
+module _ (size : Size) (g : Grids) (t8s : List ℕ) where
   -- the call of macroblock i is not refused; m is the length of the strengths
   abbrev pub served : ℕ → ℕ → Bool
-  served m i = eqb (answerOf z (columnAt i (z .w)) (rowAt i (z .w)) g false m) 0
+  served m i = eqb (answerOf size (columnAt i (size .w)) (rowAt i (size .w)) g false m) 0
 
   -- and leaves its strengths; its transform is 8x8 where its flag is not 0
   abbrev pub derivedAt : ℕ → List ℕ → List ℕ
@@ -25,8 +25,8 @@ module _ (z : Size) (g : Grids) (t8s : List ℕ) where
       cond
       (served (length s) i)
       (written
-      (rowAt i (z .w) * z .w + columnAt i (z .w))
-      (strengthAt g (z .w) (not (eqb (getD t8s i 0) 0)) (columnAt i (z .w)) (rowAt i (z .w)))
+      (rowAt i (size .w) * size .w + columnAt i (size .w))
+      (strengthAt g (size .w) (not (eqb (getD t8s i 0) 0)) (columnAt i (size .w)) (rowAt i (size .w)))
       s)
       s
 
@@ -34,12 +34,12 @@ module _ (z : Size) (g : Grids) (t8s : List ℕ) where
   derivedTo n s = upTo n derivedAt s
 
 -- what is left of the strengths s, and what an answer `true` says
-pub record DerivedAll (z : Size) (g : Grids) (t8s : List ℕ) (n : ℕ) (s : List ℕ) (r : Bool) (s′ : List ℕ) : Type 0 where
-  pub all : r ≡ true → every n (served z g t8s (length s)) ≡ true
-  pub leaves : s′ ≡ derivedTo z g t8s n s
+pub record DerivedAll (size : Size) (g : Grids) (t8s : List ℕ) (n : ℕ) (s : List ℕ) (r : Bool) (s′ : List ℕ) : Type 0 where
+  pub all : r ≡ true → every n (served size g t8s (length s)) ≡ true
+  pub leaves : s′ ≡ derivedTo size g t8s n s
 
 -- .. of grids that were read from a file: no contract can say which they are, but some they are. More than
 -- 120 macroblocks are not read
-pub record FromFile (z : Size) (t8s : List ℕ) (n : ℕ) (s : List ℕ) (r : Bool) (s′ : List ℕ) : Type 0 where
+pub record FromFile (size : Size) (t8s : List ℕ) (n : ℕ) (s : List ℕ) (r : Bool) (s′ : List ℕ) : Type 0 where
   pub too-large : 120 < n → (r ≡ false) × (s′ ≡ s)
-  pub derived : n ≤ 120 → (g : Grids) × DerivedAll z g t8s n s r s′
+  pub derived : n ≤ 120 → (g : Grids) × DerivedAll size g t8s n s r s′

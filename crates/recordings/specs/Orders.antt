@@ -67,7 +67,7 @@ pub record Becomes (way : Way) (d : Given) (n : ℕ) (s : State Planes) (after :
 -- the planes copied into spaces of n macroblocks, none of them visited
 abbrev pub startOf : ℕ → Planes → State Planes
 startOf n p =
-    (planes (copied (zeros (256 * n)) (p .y)) (copied (zeros (64 * n)) (p .u)) (copied (zeros (64 * n)) (p .v)), zeros n)
+    (planes (copied (zeros (256 * n)) (p .luma)) (copied (zeros (64 * n)) (p .u)) (copied (zeros (64 * n)) (p .v)), zeros n)
 
 -- a picture of at most 120 macroblocks becomes `after`
 pub record ComesOut (way : Way) (d : Given) (n : ℕ) (before after : Planes) : Type 0 where

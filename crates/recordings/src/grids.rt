@@ -64,7 +64,7 @@ fn list(
 
 // The strengths of all macroblocks, and whether no call was refused.
 fn derive<'a>(
-    z: Size,
+    size: Size,
     n: usize,
     inter: &[u8],
     nnz: &[u8],
@@ -75,18 +75,18 @@ fn derive<'a>(
     t8s: &[u8],
     s: &mut [u8],
 ) -> bool
-    ensures { λ r. ⌜ (r ≡ every n (served z (grids (now (inter .entry)) (now (nnz .entry)) (now (ref0 .entry)) (now (mv0 .entry)) (now (ref1 .entry)) (now (mv1 .entry))) (now (t8s .entry)) (length (now (s .entry))))) × (now (s .exit) ≡ derivedTo z (grids (now (inter .entry)) (now (nnz .entry)) (now (ref0 .entry)) (now (mv0 .entry)) (now (ref1 .entry)) (now (mv1 .entry))) (now (t8s .entry)) n (now (s .entry))) ⌝ }
+    ensures { λ r. ⌜ (r ≡ every n (served size (grids (now (inter .entry)) (now (nnz .entry)) (now (ref0 .entry)) (now (mv0 .entry)) (now (ref1 .entry)) (now (mv1 .entry))) (now (t8s .entry)) (length (now (s .entry))))) × (now (s .exit) ≡ derivedTo size (grids (now (inter .entry)) (now (nnz .entry)) (now (ref0 .entry)) (now (mv0 .entry)) (now (ref1 .entry)) (now (mv1 .entry))) (now (t8s .entry)) n (now (s .entry))) ⌝ }
 {
     let mut done = true;
     for i in 0..n {
-        let x = column(i, z.w);
-        let y = row(i, z.w);
+        let x = column(i, size.w);
+        let y = row(i, size.w);
         let p = Plain {
             x,
             y,
             t8: byte_at(t8s, i) != 0,
         };
-        done = done & (derive_mb(z, p, inter, nnz, ref0, mv0, ref1, mv1, s) == 0);
+        done = done & (derive_mb(size, p, inter, nnz, ref0, mv0, ref1, mv1, s) == 0);
     }
     done
 }
@@ -143,7 +143,7 @@ fn read(
 // .. and the strengths that are derived from it.
 fn read_and_derive(
     fd: i32,
-    z: Size,
+    size: Size,
     n: usize,
     inter: &mut [u8],
     nnz: &mut [u8],
@@ -158,7 +158,7 @@ fn read_and_derive(
     t8s: &[u8],
     s: &mut [u8],
 ) -> bool
-    ensures { λ r. ⌜ DerivedAll z (grids (now (inter .exit)) (now (nnz .exit)) (now (ref0 .exit)) (now (mv0 .exit)) (now (ref1 .exit)) (now (mv1 .exit))) (now (t8s .entry)) n (now (s .entry)) r (now (s .exit)) ⌝ }
+    ensures { λ r. ⌜ DerivedAll size (grids (now (inter .exit)) (now (nnz .exit)) (now (ref0 .exit)) (now (mv0 .exit)) (now (ref1 .exit)) (now (mv1 .exit))) (now (t8s .entry)) n (now (s .entry)) r (now (s .exit)) ⌝ }
 {
     let whole = read(
         fd,
@@ -173,13 +173,13 @@ fn read_and_derive(
         raw_refs1,
         raw_mvs1,
     );
-    whole & derive(z, n, inter, nnz, ref0, mv0, ref1, mv1, t8s, s)
+    whole & derive(size, n, inter, nnz, ref0, mv0, ref1, mv1, t8s, s)
 }
 
 // Reads the grids of at most 120 macroblocks and derives their strengths; false where there are more, the
 // file is too short or a call was refused.
-pub fn strengths_of(fd: i32, z: Size, n: usize, lists: bool, t8s: &[u8], s: &mut [u8]) -> bool
-    ensures { λ r. ⌜ FromFile z (now (t8s .entry)) n (now (s .entry)) r (now (s .exit)) ⌝ }
+pub fn strengths_of(fd: i32, size: Size, n: usize, lists: bool, t8s: &[u8], s: &mut [u8]) -> bool
+    ensures { λ r. ⌜ FromFile size (now (t8s .entry)) n (now (s .entry)) r (now (s .exit)) ⌝ }
 {
     if 120 < n {
         return false;
@@ -202,7 +202,7 @@ pub fn strengths_of(fd: i32, z: Size, n: usize, lists: bool, t8s: &[u8], s: &mut
     let m4 = only_if(lists, k4);
     read_and_derive(
         fd,
-        z,
+        size,
         n,
         &mut inter[..k],
         &mut nnz[..k],

@@ -35,7 +35,7 @@ fn three(fd: i32, a: &mut [u8], b: &mut [u8], c: &mut [u8]) -> bool {
 // What a header says: the size, how many macroblocks, whether there are list 1 and an 8x8 grid, whether the
 // strengths are free of grids, the chroma offset.
 struct Head {
-    z: Size,
+    size: Size,
     n: usize,
     lists: bool,
     t8: bool,
@@ -46,7 +46,7 @@ struct Head {
 // Reads the parts after the header, in the file's order, and derives the strengths s.
 fn load(
     fd: i32,
-    z: Size,
+    size: Size,
     blocks: usize,
     lists: bool,
     y: &mut [u8],
@@ -64,7 +64,7 @@ fn load(
     let before = three(fd, y, u, v);
     let after = three(fd, ay, au, av);
     let others = three(fd, ab, qps, t8s);
-    let derived = grids::strengths_of(fd, z, blocks, lists, t8s, s);
+    let derived = grids::strengths_of(fd, size, blocks, lists, t8s, s);
     before & after & others & derived & fill(fd, told)
 }
 
@@ -103,7 +103,7 @@ fn report(
         chroma: head.chroma,
     };
     same_strengths(head.free, s, told);
-    let d = orders::all(head.z, head.n, o, y, u, v, ay, au, av, told, qps, t8s);
+    let d = orders::all(head.size, head.n, o, y, u, v, ay, au, av, told, qps, t8s);
     verdict(b"picture", d.whole);
     verdict(b"raster order", d.raster);
     verdict(b"reverse order", d.reverse);
@@ -129,7 +129,7 @@ fn replay(
     let blocks = grids::only_if(!head.free, head.n);
     let whole = load(
         fd,
-        head.z,
+        head.size,
         blocks,
         head.lists,
         y,
@@ -234,7 +234,7 @@ fn recording(fd: i32, name: &[u8]) -> bool {
     picture(
         fd,
         Head {
-            z: Size { w, h },
+            size: Size { w, h },
             n: product(head[4], head[6]),
             lists: has(head[10], 1),
             t8: has(head[10], 2),

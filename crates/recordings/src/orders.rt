@@ -75,7 +75,7 @@ fn place(way: Way, t: usize, n: usize) -> usize
 // Tries all macroblocks again and again, so that each has a turn after those that it waits for.
 fn visits_in(
     way: Way,
-    z: Size,
+    size: Size,
     n: usize,
     o: Offsets,
     y: &mut [u8],
@@ -86,14 +86,14 @@ fn visits_in(
     t8s: &[u8],
     marks: &mut [u8],
 )
-    ensures { λ _. ⌜ (planes (now (y .exit)) (now (u .exit)) (now (v .exit)), now (marks .exit)) ≡ visitsTo (turnsOf n) way (given z o (now (s .entry)) (now (qps .entry)) (now (t8s .entry))) n (planes (now (y .entry)) (now (u .entry)) (now (v .entry)), now (marks .entry)) ⌝ }
+    ensures { λ _. ⌜ (planes (now (y .exit)) (now (u .exit)) (now (v .exit)), now (marks .exit)) ≡ visitsTo (turnsOf n) way (given size o (now (s .entry)) (now (qps .entry)) (now (t8s .entry))) n (planes (now (y .entry)) (now (u .entry)) (now (v .entry)), now (marks .entry)) ⌝ }
 {
     for t in 0..turns(n) {
         let i = place(way, t, n);
         visit(
-            z,
-            column(i, z.w),
-            row(i, z.w),
+            size,
+            column(i, size.w),
+            row(i, size.w),
             o,
             y,
             u,
@@ -108,7 +108,7 @@ fn visits_in(
 
 fn filter(
     way: Way,
-    z: Size,
+    size: Size,
     n: usize,
     o: Offsets,
     y: &mut [u8],
@@ -119,13 +119,13 @@ fn filter(
     t8s: &[u8],
     marks: &mut [u8],
 )
-    ensures { λ _. ⌜ (planes (now (y .exit)) (now (u .exit)) (now (v .exit)), now (marks .exit)) ≡ filtered way (given z o (now (s .entry)) (now (qps .entry)) (now (t8s .entry))) n (planes (now (y .entry)) (now (u .entry)) (now (v .entry)), now (marks .entry)) ⌝ }
+    ensures { λ _. ⌜ (planes (now (y .exit)) (now (u .exit)) (now (v .exit)), now (marks .exit)) ≡ filtered way (given size o (now (s .entry)) (now (qps .entry)) (now (t8s .entry))) n (planes (now (y .entry)) (now (u .entry)) (now (v .entry)), now (marks .entry)) ⌝ }
 {
     if is_whole(way) {
-        filter_frame(z, o, y, u, v, s, qps, t8s);
+        filter_frame(size, o, y, u, v, s, qps, t8s);
         return;
     }
-    visits_in(way, z, n, o, y, u, v, s, qps, t8s, marks);
+    visits_in(way, size, n, o, y, u, v, s, qps, t8s, marks);
 }
 
 fn copies(ty: &mut [u8], tu: &mut [u8], tv: &mut [u8], y: &[u8], u: &[u8], v: &[u8])
@@ -145,7 +145,7 @@ fn same(ty: &[u8], tu: &[u8], tv: &[u8], ay: &[u8], au: &[u8], av: &[u8]) -> boo
 // Whether planes that are filled with y, u and v become ay, au and av.
 fn becomes(
     way: Way,
-    z: Size,
+    size: Size,
     n: usize,
     o: Offsets,
     y: &[u8],
@@ -162,10 +162,10 @@ fn becomes(
     tv: &mut [u8],
     marks: &mut [u8],
 ) -> bool
-    ensures { λ r. ⌜ (r ≡ true) ↔ Becomes way (given z o (now (s .entry)) (now (qps .entry)) (now (t8s .entry))) n (planes (copied (now (ty .entry)) (now (y .entry))) (copied (now (tu .entry)) (now (u .entry))) (copied (now (tv .entry)) (now (v .entry))), now (marks .entry)) (planes (now (ay .entry)) (now (au .entry)) (now (av .entry))) ⌝ }
+    ensures { λ r. ⌜ (r ≡ true) ↔ Becomes way (given size o (now (s .entry)) (now (qps .entry)) (now (t8s .entry))) n (planes (copied (now (ty .entry)) (now (y .entry))) (copied (now (tu .entry)) (now (u .entry))) (copied (now (tv .entry)) (now (v .entry))), now (marks .entry)) (planes (now (ay .entry)) (now (au .entry)) (now (av .entry))) ⌝ }
 {
     copies(ty, tu, tv, y, u, v);
-    filter(way, z, n, o, ty, tu, tv, s, qps, t8s, marks);
+    filter(way, size, n, o, ty, tu, tv, s, qps, t8s, marks);
     let visited = is_whole(way) | all_ones(marks);
     visited & same(ty, tu, tv, ay, au, av)
 }
@@ -173,7 +173,7 @@ fn becomes(
 // The same in planes of this function's own, for at most 120 macroblocks.
 fn holds(
     way: Way,
-    z: Size,
+    size: Size,
     n: usize,
     o: Offsets,
     y: &[u8],
@@ -186,7 +186,7 @@ fn holds(
     qps: &[u8],
     t8s: &[u8],
 ) -> bool
-    ensures { λ r. ⌜ (r ≡ true) ↔ ComesOut way (given z o (now (s .entry)) (now (qps .entry)) (now (t8s .entry))) n (planes (now (y .entry)) (now (u .entry)) (now (v .entry))) (planes (now (ay .entry)) (now (au .entry)) (now (av .entry))) ⌝ }
+    ensures { λ r. ⌜ (r ≡ true) ↔ ComesOut way (given size o (now (s .entry)) (now (qps .entry)) (now (t8s .entry))) n (planes (now (y .entry)) (now (u .entry)) (now (v .entry))) (planes (now (ay .entry)) (now (au .entry)) (now (av .entry))) ⌝ }
 {
     if 120 < n {
         return false;
@@ -199,7 +199,7 @@ fn holds(
     let kc = 64 * n;
     becomes(
         way,
-        z,
+        size,
         n,
         o,
         y,
@@ -227,7 +227,7 @@ pub struct Verdicts {
 }
 
 pub fn all(
-    z: Size,
+    size: Size,
     n: usize,
     o: Offsets,
     y: &[u8],
@@ -240,12 +240,12 @@ pub fn all(
     qps: &[u8],
     t8s: &[u8],
 ) -> Verdicts
-    ensures { λ r. ⌜ Judged (given z o (now (s .entry)) (now (qps .entry)) (now (t8s .entry))) n (planes (now (y .entry)) (now (u .entry)) (now (v .entry))) (planes (now (ay .entry)) (now (au .entry)) (now (av .entry))) r ⌝ }
+    ensures { λ r. ⌜ Judged (given size o (now (s .entry)) (now (qps .entry)) (now (t8s .entry))) n (planes (now (y .entry)) (now (u .entry)) (now (v .entry))) (planes (now (ay .entry)) (now (au .entry)) (now (av .entry))) r ⌝ }
 {
-    let whole = holds(Way::Whole, z, n, o, y, u, v, ay, au, av, s, qps, t8s);
-    let raster = holds(Way::Raster, z, n, o, y, u, v, ay, au, av, s, qps, t8s);
-    let reverse = holds(Way::Reverse, z, n, o, y, u, v, ay, au, av, s, qps, t8s);
-    let sevens = holds(Way::Sevens, z, n, o, y, u, v, ay, au, av, s, qps, t8s);
+    let whole = holds(Way::Whole, size, n, o, y, u, v, ay, au, av, s, qps, t8s);
+    let raster = holds(Way::Raster, size, n, o, y, u, v, ay, au, av, s, qps, t8s);
+    let reverse = holds(Way::Reverse, size, n, o, y, u, v, ay, au, av, s, qps, t8s);
+    let sevens = holds(Way::Sevens, size, n, o, y, u, v, ay, au, av, s, qps, t8s);
     Verdicts {
         whole,
         raster,

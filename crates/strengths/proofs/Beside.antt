@@ -12,10 +12,10 @@ use Rattle.strengths.specs.Strength.{vertical, edge, segment, row, colum
 use Rattle.laws.proofs.Bools.{or-false}
 
 not-both : (a b : ℕ) → (eqb a 0 && eqb b 0) ≡ false → 0 < a + b
-not-both zero zero e = let z : true ≡ false = e in absurd (no z)
+not-both zero zero e = let size : true ≡ false = e in absurd (no size)
   where
     no : true ≡ false → ⊥
-    no z = let k : _≡_ {A = ℕ} 0 1 = cc in omega arith
+    no size = let k : _≡_ {A = ℕ} 0 1 = cc in omega arith
 not-both zero (suc b) e = omega arith
 not-both (suc a) b e = omega arith
 

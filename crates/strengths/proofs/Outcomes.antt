@@ -27,83 +27,83 @@ use Rattle.strengths.proofs.ByKind.{kind-is}
 use Rattle.strengths.proofs.Passed.{Good, good}
 use Rattle.laws.proofs.Bools.{or-false}
 
-module _ (z : Size) (x y : ℕ) (g : Grids) (n : ℕ) where
-  first-four : Numbered (numbers z x y g n)
+module _ (size : Size) (x y : ℕ) (g : Grids) (n : ℕ) where
+  first-four : Numbered (numbers size x y g n)
   first-four = (nonzero 1 tt, (nonzero 2 tt, (nonzero 4 tt, (nonzero 5 tt, tt))))
 
-  all : Numbered (checks z x y g n)
+  all : Numbered (checks size x y g n)
   all = (nonzero 1 tt, (nonzero 2 tt, (nonzero 4 tt, (nonzero 5 tt, (nonzero 7 tt, (nonzero 10 tt, (nonzero 11 tt, tt)))))))
 
   -- ---- what is known once checks 1 to 11 have passed
-  pub is-good : refusal (checks z x y g n) ≡ 0 → Good z x y g n
-  is-good e = good z x y g n (refusal-left (numbers z x y g n) (blocks z x y g) first-four e)
+  pub is-good : refusal (checks size x y g n) ≡ 0 → Good size x y g n
+  is-good e = good size x y g n (refusal-left (numbers size x y g n) (blocks size x y g) first-four e)
 
-  pub agrees : refusal (checks z x y g n) ≡ 0 → disagree (g .inter) (z .w) x y ≡ false
+  pub agrees : refusal (checks size x y g n) ≡ 0 → disagree (g .inter) (size .w) x y ≡ false
   agrees e =
-      passed (blocks z x y g) (nonzero 7 tt, (nonzero 10 tt, (nonzero 11 tt, tt))) (refusal-right (numbers z x y g n) (blocks z x y g) first-four e) .1 .1 .0
+      passed (blocks size x y g) (nonzero 7 tt, (nonzero 10 tt, (nonzero 11 tt, tt))) (refusal-right (numbers size x y g n) (blocks size x y g) first-four e) .1 .1 .0
 
   -- ---- the answer, by the checks before 12
-  answer-cut : (untrue : Bool) → answerOf z x y g untrue n ≡ cond (eqb (refusal (checks z x y g n)) 0) (cond untrue 12 0) (refusal (checks z x y g n))
+  answer-cut : (untrue : Bool) → answerOf size x y g untrue n ≡ cond (eqb (refusal (checks size x y g n)) 0) (cond untrue 12 0) (refusal (checks size x y g n))
   unfolding answerOf
-  answer-cut untrue = refusal-cut (checks z x y g n) ((12, untrue) ∷ []) all
+  answer-cut untrue = refusal-cut (checks size x y g n) ((12, untrue) ∷ []) all
 
   -- the checks may be made in two parts
-  pub checks-cut : refusal (checks z x y g n) ≡ cond (eqb (refusal (numbers z x y g n)) 0) (refusal (blocks z x y g)) (refusal (numbers z x y g n))
-  checks-cut = refusal-cut (numbers z x y g n) (blocks z x y g) first-four
+  pub checks-cut : refusal (checks size x y g n) ≡ cond (eqb (refusal (numbers size x y g n)) 0) (refusal (blocks size x y g)) (refusal (numbers size x y g n))
+  checks-cut = refusal-cut (numbers size x y g n) (blocks size x y g) first-four
 
-module _ (z : Size) (x y : ℕ) (t8 : Bool) (g : Grids) (untrue : Bool) (s : List ℕ) where
-  pub refused : (n : ℕ) → n ≡ refusal (checks z x y g (length s)) → (n ≡ 0 → ⊥) → Outcome z x y t8 g untrue s n s
+module _ (size : Size) (x y : ℕ) (t8 : Bool) (g : Grids) (untrue : Bool) (s : List ℕ) where
+  pub refused : (n : ℕ) → n ≡ refusal (checks size x y g (length s)) → (n ≡ 0 → ⊥) → Outcome size x y t8 g untrue s n s
   refused n e h = record {
-    says = e ∙ sym (answer-cut z x y g (length s) untrue ∙ ap (λ (b : Bool). cond b (cond untrue 12 0) (refusal (checks z x y g (length s)))) (ne-eqb _ 0 (λ k. h (e ∙ k))));
+    says = e ∙ sym (answer-cut size x y g (length s) untrue ∙ ap (λ (b : Bool). cond b (cond untrue 12 0) (refusal (checks size x y g (length s)))) (ne-eqb _ 0 (λ k. h (e ∙ k))));
     leaves = rw (ne-eqb n 0 h);
   }
 
-  pub untrue-12 : refusal (checks z x y g (length s)) ≡ 0 → untrue ≡ true → Outcome z x y t8 g untrue s 12 s
+  pub untrue-12 : refusal (checks size x y g (length s)) ≡ 0 → untrue ≡ true → Outcome size x y t8 g untrue s 12 s
   untrue-12 e u = record {
-    says = sym (answer-cut z x y g (length s) untrue ∙ (λ i. cond (eqb (e i) 0) (cond (u i) 12 0) (e i)));
+    says = sym (answer-cut size x y g (length s) untrue ∙ (λ i. cond (eqb (e i) 0) (cond (u i) 12 0) (e i)));
     leaves = refl;
   }
 
   -- done by a kind that is true
-  pub done : (kind : MbKind) (s′ : List ℕ) → refusal (checks z x y g (length s)) ≡ 0 → untrue ≡ false → isKind g (z .w) x y kind ≡ true
-      → s′ ≡ written (y * z .w + x) (strengthBy kind g (z .w) t8 x y) s → Outcome z x y t8 g untrue s 0 s′
+  pub done : (kind : MbKind) (s′ : List ℕ) → refusal (checks size x y g (length s)) ≡ 0 → untrue ≡ false → isKind g (size .w) x y kind ≡ true
+      → s′ ≡ written (y * size .w + x) (strengthBy kind g (size .w) t8 x y) s → Outcome size x y t8 g untrue s 0 s′
   done kind s′ e u k w = record {
-    says = sym (answer-cut z x y g (length s) untrue ∙ (λ i. cond (eqb (e i) 0) (cond (u i) 12 0) (e i)));
-    leaves = w ∙ (λ i. written (y * z .w + x) (λ (b : ℕ). kind-is g (z .w) x y (agrees z x y g (length s) e) kind k t8 b i) s);
+    says = sym (answer-cut size x y g (length s) untrue ∙ (λ i. cond (eqb (e i) 0) (cond (u i) 12 0) (e i)));
+    leaves = w ∙ (λ i. written (y * size .w + x) (λ (b : ℕ). kind-is g (size .w) x y (agrees size x y g (length s) e) kind k t8 b i) s);
   }
 
   -- two outcomes that the promise allows are equal
-  pub unique : (n m : ℕ) (s₁ s₂ : List ℕ) → Outcome z x y t8 g untrue s n s₁ → Outcome z x y t8 g untrue s m s₂ → (n ≡ m) × (s₁ ≡ s₂)
+  pub unique : (n m : ℕ) (s₁ s₂ : List ℕ) → Outcome size x y t8 g untrue s n s₁ → Outcome size x y t8 g untrue s m s₂ → (n ≡ m) × (s₁ ≡ s₂)
   unique n m s₁ s₂ a b =
       let e = a .says ∙ sym (b .says) in
-      (e, a .leaves ∙ ap (λ (k : ℕ). cond (eqb k 0) (written (y * z .w + x) (strengthAt g (z .w) t8 x y) s) s) e ∙ sym (b .leaves))
+      (e, a .leaves ∙ ap (λ (k : ℕ). cond (eqb k 0) (written (y * size .w + x) (strengthAt g (size .w) t8 x y) s) s) e ∙ sym (b .leaves))
 
 -- ---- what is known of a macroblock changes nothing: a call with a kind or flags that is done leaves what
 -- the flagless call leaves, which is done too
-module _ (z : Size) (x y : ℕ) (t8 : Bool) (g : Grids) (untrue : Bool) (s : List ℕ) where
-  passed-all : answerOf z x y g untrue (length s) ≡ 0 → refusal (checks z x y g (length s)) ≡ 0
-  passed-all e = go (ℕ-discrete (refusal (checks z x y g (length s))) 0)
+module _ (size : Size) (x y : ℕ) (t8 : Bool) (g : Grids) (untrue : Bool) (s : List ℕ) where
+  passed-all : answerOf size x y g untrue (length s) ≡ 0 → refusal (checks size x y g (length s)) ≡ 0
+  passed-all e = go (ℕ-discrete (refusal (checks size x y g (length s))) 0)
     where
-      cut : cond (eqb (refusal (checks z x y g (length s))) 0) (cond untrue 12 0) (refusal (checks z x y g (length s))) ≡ 0
-      cut = sym (answer-cut z x y g (length s) untrue) ∙ e
+      cut : cond (eqb (refusal (checks size x y g (length s))) 0) (cond untrue 12 0) (refusal (checks size x y g (length s))) ≡ 0
+      cut = sym (answer-cut size x y g (length s) untrue) ∙ e
 
-      go : Dec (refusal (checks z x y g (length s)) ≡ 0) → refusal (checks z x y g (length s)) ≡ 0
+      go : Dec (refusal (checks size x y g (length s)) ≡ 0) → refusal (checks size x y g (length s)) ≡ 0
       go (yes h) = h
       go (no h) = rw (ne-eqb _ 0 h) at cut
 
-  pub as-flagless : (n : ℕ) (s₁ s₂ : List ℕ) → Outcome z x y t8 g untrue s 0 s₁ → Outcome z x y t8 g false s n s₂ → (n ≡ 0) × (s₂ ≡ s₁)
+  pub as-flagless : (n : ℕ) (s₁ s₂ : List ℕ) → Outcome size x y t8 g untrue s 0 s₁ → Outcome size x y t8 g false s n s₂ → (n ≡ 0) × (s₂ ≡ s₁)
   as-flagless n s₁ s₂ a b =
-      let e : n ≡ 0 = b .says ∙ answer-cut z x y g (length s) false ∙ ap (λ (r : ℕ). cond (eqb r 0) 0 r) (passed-all (sym (a .says))) in
-      (e, b .leaves ∙ ap (λ (k : ℕ). cond (eqb k 0) (written (y * z .w + x) (strengthAt g (z .w) t8 x y) s) s) e ∙ sym (a .leaves))
+      let e : n ≡ 0 = b .says ∙ answer-cut size x y g (length s) false ∙ ap (λ (r : ℕ). cond (eqb r 0) 0 r) (passed-all (sym (a .says))) in
+      (e, b .leaves ∙ ap (λ (k : ℕ). cond (eqb k 0) (written (y * size .w + x) (strengthAt g (size .w) t8 x y) s) s) e ∙ sym (a .leaves))
 
 -- the kind call's is the flagless one without 8x8
-pub kind-as-flagless : (z : Size) (r : Request) (g : Grids) (s s₁ s₂ : List ℕ) (n : ℕ)
-    → KindOutcome z r g s 0 s₁ → PlainOutcome z (record { x = r .x; y = r .y; t8 = false }) g s n s₂ → (n ≡ 0) × (s₂ ≡ s₁)
-kind-as-flagless z r g s s₁ s₂ n = as-flagless z (r .x) (r .y) false g (untrueKind z r g) s n s₁ s₂
+pub kind-as-flagless : (size : Size) (r : Request) (g : Grids) (s s₁ s₂ : List ℕ) (n : ℕ)
+    → KindOutcome size r g s 0 s₁ → PlainOutcome size (record { x = r .x; y = r .y; t8 = false }) g s n s₂ → (n ≡ 0) × (s₂ ≡ s₁)
+kind-as-flagless size r g s s₁ s₂ n = as-flagless size (r .x) (r .y) false g (untrueKind size r g) s n s₁ s₂
 
-pub flags-as-flagless : (z : Size) (r : Flagged) (g : Grids) (s s₁ s₂ : List ℕ) (n : ℕ)
-    → FlagsOutcome z r g s 0 s₁ → PlainOutcome z (record { x = r .x; y = r .y; t8 = r .t8 }) g s n s₂ → (n ≡ 0) × (s₂ ≡ s₁)
-flags-as-flagless z r g s s₁ s₂ n = as-flagless z (r .x) (r .y) (r .t8) g (untrueFlags (z .w) r g) s n s₁ s₂
+pub flags-as-flagless : (size : Size) (r : Flagged) (g : Grids) (s s₁ s₂ : List ℕ) (n : ℕ)
+    → FlagsOutcome size r g s 0 s₁ → PlainOutcome size (record { x = r .x; y = r .y; t8 = r .t8 }) g s n s₂ → (n ≡ 0) × (s₂ ≡ s₁)
+flags-as-flagless size r g s s₁ s₂ n = as-flagless size (r .x) (r .y) (r .t8) g (untrueFlags (size .w) r g) s n s₁ s₂
 
 -- ---- flags that are true amount to a true kind
 flag-true : (b t : Bool) → b ≡ true → (b && not t) ≡ false → t ≡ true

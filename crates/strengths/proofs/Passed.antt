@@ -21,35 +21,35 @@ use Rattle.strengths.specs.Calls.{numbers}
 use Rattle.edges.specs.declared.Size.{Size}
 use Rattle.strengths.proofs.Sized.{Sized, sized}
 
-pub record Good (z : Size) (x y : ℕ) (g : Grids) (n : ℕ) : Type 0 where
-  pub size : Sized z
-  pub column : x < z .w
-  pub line : y < z .h
-  pub strengths : n ≡ 32 * (z .w * z .h)
-  pub inters : length (g .inter) ≡ 16 * (z .w * z .h)
-  pub counts : length (g .nnz) ≡ 16 * (z .w * z .h)
-  pub refs : length (g .ref0) ≡ 16 * (z .w * z .h)
-  pub vectors : length (g .mv0) ≡ 2 * (16 * (z .w * z .h))
-  pub list1 : ((length (g .ref1) ≡ 0) × (length (g .mv1) ≡ 0)) ⊎ ((length (g .ref1) ≡ 16 * (z .w * z .h)) × (length (g .mv1) ≡ 2 * (16 * (z .w * z .h))))
+pub record Good (size : Size) (x y : ℕ) (g : Grids) (n : ℕ) : Type 0 where
+  pub sides : Sized size
+  pub column : x < size .w
+  pub line : y < size .h
+  pub strengths : n ≡ 32 * (size .w * size .h)
+  pub inters : length (g .inter) ≡ 16 * (size .w * size .h)
+  pub counts : length (g .nnz) ≡ 16 * (size .w * size .h)
+  pub refs : length (g .ref0) ≡ 16 * (size .w * size .h)
+  pub vectors : length (g .mv0) ≡ 2 * (16 * (size .w * size .h))
+  pub list1 : ((length (g .ref1) ≡ 0) × (length (g .mv1) ≡ 0)) ⊎ ((length (g .ref1) ≡ 16 * (size .w * size .h)) × (length (g .mv1) ≡ 2 * (16 * (size .w * size .h))))
 
-pub good : (z : Size) (x y : ℕ) (g : Grids) (n : ℕ) → refusal (numbers z x y g n) ≡ 0 → Good z x y g n
-good z x y g n e =
-    let p = passed (numbers z x y g n) (nonzero 1 tt, (nonzero 2 tt, (nonzero 4 tt, (nonzero 5 tt, tt)))) e in
-    let o = or-false (leb (z .w) x) (leb (z .h) y) (p .1 .0) in
+pub good : (size : Size) (x y : ℕ) (g : Grids) (n : ℕ) → refusal (numbers size x y g n) ≡ 0 → Good size x y g n
+good size x y g n e =
+    let p = passed (numbers size x y g n) (nonzero 1 tt, (nonzero 2 tt, (nonzero 4 tt, (nonzero 5 tt, tt)))) e in
+    let o = or-false (leb (size .w) x) (leb (size .h) y) (p .1 .0) in
     let a = or-false _ _ (p .1 .1 .1 .0) in
     let b = or-false _ _ (a .0) in
     let c = or-false _ _ (b .0) in
     let d = or-false _ _ (c .0) in
     record {
-      size = sized z (p .0);
-      column = leb-false (z .w) x (o .0);
-      line = leb-false (z .h) y (o .1);
+      sides = sized size (p .0);
+      column = leb-false (size .w) x (o .0);
+      line = leb-false (size .h) y (o .1);
       strengths = equal _ _ (p .1 .1 .0);
       inters = equal _ _ (d .0);
       counts = equal _ _ (d .1);
       refs = equal _ _ (c .1);
       vectors = equal _ _ (b .1);
-      list1 = list (length (g .ref1)) (length (g .mv1)) (16 * (z .w * z .h)) (not-false _ (a .1));
+      list1 = list (length (g .ref1)) (length (g .mv1)) (16 * (size .w * size .h)) (not-false _ (a .1));
     }
   where
     list : (r m k : ℕ) → ((eqb r 0 && eqb m 0) || (eqb r k && eqb m (2 * k))) ≡ true → ((r ≡ 0) × (m ≡ 0)) ⊎ ((r ≡ k) × (m ≡ 2 * k))
@@ -59,17 +59,17 @@ good z x y g n e =
         (λ h. let q = and-true (eqb r k) (eqb m (2 * k)) h in inr (eqb-true r k (q .0), eqb-true m (2 * k) (q .1)))
         (or-true (eqb r 0 && eqb m 0) (eqb r k && eqb m (2 * k)) f)
 
-module _ (z : Size) (x y : ℕ) (g : Grids) (n : ℕ) (h : Good z x y g n) where
-  last : own (z .w) x y 3 3 < 16 * (z .w * z .h)
-  last = let c = h .column in let f = row-fits y (z .w) (z .h) (h .line) in omega arith
+module _ (size : Size) (x y : ℕ) (g : Grids) (n : ℕ) (h : Good size x y g n) where
+  last : own (size .w) x y 3 3 < 16 * (size .w * size .h)
+  last = let c = h .column in let f = row-fits y (size .w) (size .h) (h .line) in omega arith
 
-  pub inside-of : (k : ℕ) → 16 * (z .w * z .h) ≤ k → Inside (z .w) x y k
+  pub inside-of : (k : ℕ) → 16 * (size .w * size .h) ≤ k → Inside (size .w) x y k
   inside-of k l = record { column = h .column; last = omega (arith, last) }
 
-  pub small : Inside (z .w) x y 589824
-  small = inside-of 589824 (omega (arith, h .size .most))
+  pub small : Inside (size .w) x y 589824
+  small = inside-of 589824 (omega (arith, h .sides .most))
 
-  pub holds : Hold g (own (z .w) x y 3 3 + 1)
+  pub holds : Hold g (own (size .w) x y 3 3 + 1)
   holds =
       let a = h .inters in
       let b = h .counts in
@@ -78,20 +78,20 @@ module _ (z : Size) (x y : ℕ) (g : Grids) (n : ℕ) (h : Good z x y g n) where
       let l = last in
       record { inters = omega arith; counts = omega arith; refs = omega arith; vectors = omega arith; list1 = ⊎-elim none full (h .list1) }
     where
-      none : (length (g .ref1) ≡ 0) × (length (g .mv1) ≡ 0) → Optional (g .ref1) (g .mv1) (own (z .w) x y 3 3 + 1)
+      none : (length (g .ref1) ≡ 0) × (length (g .mv1) ≡ 0) → Optional (g .ref1) (g .mv1) (own (size .w) x y 3 3 + 1)
       none e = record { empty = λ k. e .1; full = λ k. absurd (no (e .0) k) }
         where
           no : length (g .ref1) ≡ 0 → 0 < length (g .ref1) → ⊥
           no p q = omega arith
 
-      full : (length (g .ref1) ≡ 16 * (z .w * z .h)) × (length (g .mv1) ≡ 2 * (16 * (z .w * z .h))) → Optional (g .ref1) (g .mv1) (own (z .w) x y 3 3 + 1)
+      full : (length (g .ref1) ≡ 16 * (size .w * size .h)) × (length (g .mv1) ≡ 2 * (16 * (size .w * size .h))) → Optional (g .ref1) (g .mv1) (own (size .w) x y 3 3 + 1)
       full e = record { empty = λ k. absurd (no (e .0) k last); full = λ k. (omega (arith, e .0, last), omega (arith, e .1, last)) }
         where
-          no : length (g .ref1) ≡ 16 * (z .w * z .h) → length (g .ref1) ≡ 0 → own (z .w) x y 3 3 < 16 * (z .w * z .h) → ⊥
+          no : length (g .ref1) ≡ 16 * (size .w * size .h) → length (g .ref1) ≡ 0 → own (size .w) x y 3 3 < 16 * (size .w * size .h) → ⊥
           no p q r = omega arith
 
   -- list 1 by itself, where it is lent
-  pub list1-inside : 0 < length (g .ref1) → Inside (z .w) x y (length (g .ref1))
+  pub list1-inside : 0 < length (g .ref1) → Inside (size .w) x y (length (g .ref1))
   list1-inside k = ⊎-elim (λ e. absurd (no (e .0) k)) (λ e. inside-of (length (g .ref1)) (omega (arith, e .0))) (h .list1)
     where
       no : length (g .ref1) ≡ 0 → 0 < length (g .ref1) → ⊥

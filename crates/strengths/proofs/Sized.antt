@@ -38,11 +38,11 @@ sides w h e =
     positive n h = omega arith
 
 -- .. and the product is at most 36,864
-pub record Sized (z : Size) : Type 0 where
-  pub both : Sides (z .w) (z .h)
-  pub most : z .w * z .h ≤ 36864
+pub record Sized (size : Size) : Type 0 where
+  pub both : Sides (size .w) (size .h)
+  pub most : size .w * size .h ≤ 36864
 
-pub sized : (z : Size) → badSize z ≡ false → Sized z
-sized z e =
-    let a = or-false (eqb (z .w) 0 || ltb 256 (z .w) || eqb (z .h) 0 || ltb 256 (z .h)) (ltb 36864 (z .w * z .h)) e in
-    record { both = sides (z .w) (z .h) (a .0); most = ltb-false 36864 (z .w * z .h) (a .1) }
+pub sized : (size : Size) → badSize size ≡ false → Sized size
+sized size e =
+    let a = or-false (eqb (size .w) 0 || ltb 256 (size .w) || eqb (size .h) 0 || ltb 256 (size .h)) (ltb 36864 (size .w * size .h)) e in
+    record { both = sides (size .w) (size .h) (a .0); most = ltb-false 36864 (size .w * size .h) (a .1) }

@@ -13,15 +13,15 @@ use Rattle.edges.specs.declared.Size.{Size}
 
 -- 1: W, H or their product is outside its range
 abbrev pub badSize : Size → Bool
-badSize z = eqb (z .w) 0 || ltb 256 (z .w) || eqb (z .h) 0 || ltb 256 (z .h) || ltb 36864 (z .w * z .h)
+badSize size = eqb (size .w) 0 || ltb 256 (size .w) || eqb (size .h) 0 || ltb 256 (size .h) || ltb 36864 (size .w * size .h)
 
 -- 2: the macroblock is outside the picture
 abbrev pub outsideOf : Size → ℕ → ℕ → Bool
-outsideOf z x y = leb (z .w) x || leb (z .h) y
+outsideOf size x y = leb (size .w) x || leb (size .h) y
 
 -- 4: the strengths grid has the wrong length
 abbrev pub badStrengths : Size → ℕ → Bool
-badStrengths z n = not (eqb n (32 * (z .w * z .h)))
+badStrengths size n = not (eqb n (32 * (size .w * size .h)))
 
 -- 5: a 4x4 grid has the wrong length, or just one list 1 grid is empty. n is the number of blocks
 abbrev pub badLengths : ℕ → ℕ → ℕ → ℕ → ℕ → ℕ → ℕ → Bool

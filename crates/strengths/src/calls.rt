@@ -80,7 +80,7 @@ fn is_inter(inter: &[u8], w: usize, x: usize, y: usize) -> bool
 
 // Strengths of a macroblock whose kind is known; its transform counts as 4x4.
 pub fn derive_mb_kind<'a>(
-    z: Size,
+    size: Size,
     r: Request,
     inter: &[u8],
     nnz: &[u8],
@@ -90,13 +90,24 @@ pub fn derive_mb_kind<'a>(
     mv1: &'a [i16],
     strengths: &mut [u8],
 ) -> u32
-    ensures { λ n. ⌜ KindOutcome z r (grids (now (inter .entry)) (now (nnz .entry)) (now («ref_id» .entry)) (now (mv .entry)) (now (ref1 .entry)) (now (mv1 .entry))) (now (strengths .entry)) n (now (strengths .exit)) ⌝ }
+    ensures { λ n. ⌜ KindOutcome size r (grids (now (inter .entry)) (now (nnz .entry)) (now («ref_id» .entry)) (now (mv .entry)) (now (ref1 .entry)) (now (mv1 .entry))) (now (strengths .entry)) n (now (strengths .exit)) ⌝ }
 {
     let x = r.x;
     let y = r.y;
     let kind = r.kind;
-    let w = z.w;
-    let n = refuse(z, x, y, strengths.len(), inter, nnz, ref_id, mv, ref1, mv1);
+    let w = size.w;
+    let n = refuse(
+        size,
+        x,
+        y,
+        strengths.len(),
+        inter,
+        nnz,
+        ref_id,
+        mv,
+        ref1,
+        mv1,
+    );
     if n != 0 {
         return n;
     }
@@ -123,7 +134,7 @@ pub fn derive_mb_kind<'a>(
 
 // Strengths with flags that the caller sets where they are true.
 pub fn derive_mb_bs<'a>(
-    z: Size,
+    size: Size,
     f: Flagged,
     inter: &[u8],
     nnz: &[u8],
@@ -133,15 +144,26 @@ pub fn derive_mb_bs<'a>(
     mv1: &'a [i16],
     strengths: &mut [u8],
 ) -> u32
-    ensures { λ n. ⌜ FlagsOutcome z f (grids (now (inter .entry)) (now (nnz .entry)) (now («ref_id» .entry)) (now (mv .entry)) (now (ref1 .entry)) (now (mv1 .entry))) (now (strengths .entry)) n (now (strengths .exit)) ⌝ }
+    ensures { λ n. ⌜ FlagsOutcome size f (grids (now (inter .entry)) (now (nnz .entry)) (now («ref_id» .entry)) (now (mv .entry)) (now (ref1 .entry)) (now (mv1 .entry))) (now (strengths .entry)) n (now (strengths .exit)) ⌝ }
 {
     let x = f.x;
     let y = f.y;
     let t8 = f.t8;
     let flat = f.flat;
     let uniform = f.uniform;
-    let w = z.w;
-    let n = refuse(z, x, y, strengths.len(), inter, nnz, ref_id, mv, ref1, mv1);
+    let w = size.w;
+    let n = refuse(
+        size,
+        x,
+        y,
+        strengths.len(),
+        inter,
+        nnz,
+        ref_id,
+        mv,
+        ref1,
+        mv1,
+    );
     if n != 0 {
         return n;
     }
@@ -169,7 +191,7 @@ pub fn derive_mb_bs<'a>(
 
 // Strengths of a macroblock of which nothing is known but its transform.
 pub fn derive_mb<'a>(
-    z: Size,
+    size: Size,
     p: Plain,
     inter: &[u8],
     nnz: &[u8],
@@ -179,13 +201,24 @@ pub fn derive_mb<'a>(
     mv1: &'a [i16],
     strengths: &mut [u8],
 ) -> u32
-    ensures { λ n. ⌜ PlainOutcome z p (grids (now (inter .entry)) (now (nnz .entry)) (now («ref_id» .entry)) (now (mv .entry)) (now (ref1 .entry)) (now (mv1 .entry))) (now (strengths .entry)) n (now (strengths .exit)) ⌝ }
+    ensures { λ n. ⌜ PlainOutcome size p (grids (now (inter .entry)) (now (nnz .entry)) (now («ref_id» .entry)) (now (mv .entry)) (now (ref1 .entry)) (now (mv1 .entry))) (now (strengths .entry)) n (now (strengths .exit)) ⌝ }
 {
     let x = p.x;
     let y = p.y;
     let t8 = p.t8;
-    let w = z.w;
-    let n = refuse(z, x, y, strengths.len(), inter, nnz, ref_id, mv, ref1, mv1);
+    let w = size.w;
+    let n = refuse(
+        size,
+        x,
+        y,
+        strengths.len(),
+        inter,
+        nnz,
+        ref_id,
+        mv,
+        ref1,
+        mv1,
+    );
     if n != 0 {
         return n;
     }

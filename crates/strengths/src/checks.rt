@@ -18,11 +18,11 @@ use crate::walks::own_differ;
 use crate::walks::own_over;
 use edges::Size;
 
-pub fn bad_size(z: Size) -> bool
-    ensures { λ r. ⌜ r ≡ badSize z ⌝ }
+pub fn bad_size(size: Size) -> bool
+    ensures { λ r. ⌜ r ≡ badSize size ⌝ }
 {
-    let w = z.w;
-    let h = z.h;
+    let w = size.w;
+    let h = size.h;
     if (w == 0) | (256 < w) | (h == 0) | (256 < h) {
         return true;
     }
@@ -50,7 +50,7 @@ fn bad_lengths(
 
 // Checks 1, 2, 4 and 5, which read lengths alone.
 pub fn bad_numbers(
-    z: Size,
+    size: Size,
     x: usize,
     y: usize,
     strengths: usize,
@@ -61,13 +61,13 @@ pub fn bad_numbers(
     ref1: usize,
     mv1: usize,
 ) -> u32
-    ensures { λ r. ⌜ r ≡ refusal ((1, badSize z) ∷ (2, outsideOf z x y) ∷ (4, badStrengths z strengths) ∷ (5, badLengths (16 * (z .w * z .h)) inter nnz ref0 mv0 ref1 mv1) ∷ []) ⌝ }
+    ensures { λ r. ⌜ r ≡ refusal ((1, badSize size) ∷ (2, outsideOf size x y) ∷ (4, badStrengths size strengths) ∷ (5, badLengths (16 * (size .w * size .h)) inter nnz ref0 mv0 ref1 mv1) ∷ []) ⌝ }
 {
-    if bad_size(z) {
+    if bad_size(size) {
         return 1;
     }
-    let w = z.w;
-    let h = z.h;
+    let w = size.w;
+    let h = size.h;
     if (w <= x) | (h <= y) {
         return 2;
     }
@@ -130,7 +130,7 @@ pub fn disagreeing(inter: &[u8], w: usize, x: usize, y: usize) -> bool
 
 // Checks 1 to 11. `strengths` is the length of the strengths grid.
 pub fn refuse<'a>(
-    z: Size,
+    size: Size,
     x: usize,
     y: usize,
     strengths: usize,
@@ -141,10 +141,10 @@ pub fn refuse<'a>(
     ref1: &[i8],
     mv1: &'a [i16],
 ) -> u32
-    ensures { λ r. ⌜ r ≡ refusal (checks z x y (grids (now (inter .entry)) (now (nnz .entry)) (now («ref_id» .entry)) (now (mv .entry)) (now (ref1 .entry)) (now (mv1 .entry))) strengths) ⌝ }
+    ensures { λ r. ⌜ r ≡ refusal (checks size x y (grids (now (inter .entry)) (now (nnz .entry)) (now («ref_id» .entry)) (now (mv .entry)) (now (ref1 .entry)) (now (mv1 .entry))) strengths) ⌝ }
 {
     let n = bad_numbers(
-        z,
+        size,
         x,
         y,
         strengths,
@@ -158,7 +158,7 @@ pub fn refuse<'a>(
     if n != 0 {
         return n;
     }
-    let w = z.w;
+    let w = size.w;
     if bad_inter(inter, w, x, y) {
         return 7;
     }

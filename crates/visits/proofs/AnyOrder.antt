@@ -53,7 +53,7 @@ module _
       back n h = rw (ne-eqb n 0 h) v
 
       go : (n : ℕ) → Verdict W H early s r n → Inv start (serve W step n s r)
-      go n (earlier e k) = back n (λ z. e (sym k ∙ z))
+      go n (earlier e k) = back n (λ l. e (sym k ∙ l))
       go n (already e k l) = back n (omega arith)
       go n (waits e u w l) = back n (omega arith)
       go n (free e u f l) =

@@ -36,9 +36,9 @@ module _ (d : Given) (wide : 0 < d .size .w) (v : Sound d) where
       (clear q r zr) .0
     where
       clear : (a c : At) → visitOf d s c .0 ≡ 0 → earlyOf d (visitOf d s a .1) c ≡ 0
-      clear a c z =
+      clear a c size =
           let g =
           good-visit (d .size .w) (d .size .h) (stepOf (heldOf d)) (earlyOf d) (asks-place d) (Fit d) (fit-kept d) (passes-valid d v) s a
           (record { valid = f; size = l; bits = b }) in
-          let p = passed (d .size .w) (d .size .h) (stepOf (heldOf d)) (earlyOf d) (asks-place d) s c z in
+          let p = passed (d .size .w) (d .size .h) (stepOf (heldOf d)) (earlyOf d) (asks-place d) s c size in
           passes-valid d v (visitOf d s a .1) (g .valid) (g .size) (g .bits) (c .0) (c .1) (p .column) (p .row)

@@ -101,7 +101,7 @@ module _
 
   pub passed : (s : State S) (r : At) → visit W step early s r .0 ≡ 0 → Passed s r
   unfolding visit
-  passed s r z = go (answer W early s r) z (verdict W H early inside s r)
+  passed s r size = go (answer W early s r) size (verdict W H early inside s r)
     where
       go : (n : ℕ) → n ≡ 0 → Verdict W H early s r n → Passed s r
       go n k (earlier d l) = absurd (d (sym l ∙ k))
@@ -113,5 +113,5 @@ module _
         row = inside s r d .1;
         unvisited = m;
         ready = f;
-        after = rw (eq-eqb (answer W early s r) 0 z);
+        after = rw (eq-eqb (answer W early s r) 0 size);
       }

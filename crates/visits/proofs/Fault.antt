@@ -42,7 +42,7 @@ module _ (u v : Plane) (lu : length u ≡ 256) (lv : length v ≡ 256) where
   step = stepOf faultHeld
 
   -- ---- sample (15, 15) of luma
-  samples : (getD (step 3 (step 1 (step 2 (step 0 start))) .y) 495 0 ≡ 102) × (getD (step 3 (step 2 (step 1 (step 0 start))) .y) 495 0 ≡ 103)
+  samples : (getD (step 3 (step 1 (step 2 (step 0 start))) .luma) 495 0 ≡ 102) × (getD (step 3 (step 2 (step 1 (step 0 start))) .luma) 495 0 ≡ 103)
   unfolding band faultLuma macroblockAt lumaOf flagAt upTo eight lumaRule lumaEdge lumaWay lumaBoth lumaAt lumaLine normalLine lumaNormal nudgeOf innerOf deltaOf clip3 clip1 average indexOf alphas betas tc0s
   samples = (refl, refl)
 
@@ -85,15 +85,15 @@ module _ (u v : Plane) (lu : length u ≡ 256) (lv : length v ≡ 256) where
   pub old-allowed : answers (oldVisit 2 step (earlyOf faultGiven)) oldOrder (unvisited faultGiven start) ≡ 0 ∷ 0 ∷ 0 ∷ 0 ∷ []
   old-allowed = old-allows step (earlyOf faultGiven) start old-clear
 
-  pub old-102 : getD (run (oldVisit 2 step (earlyOf faultGiven)) oldOrder (unvisited faultGiven start) .0 .y) 495 0 ≡ 102
-  old-102 = ap (λ (s : State Planes). getD (s .0 .y) 495 0) (old-ends step (earlyOf faultGiven) start old-clear) ∙ samples .0
+  pub old-102 : getD (run (oldVisit 2 step (earlyOf faultGiven)) oldOrder (unvisited faultGiven start) .0 .luma) 495 0 ≡ 102
+  old-102 = ap (λ (s : State Planes). getD (s .0 .luma) 495 0) (old-ends step (earlyOf faultGiven) start old-clear) ∙ samples .0
 
   -- raster order, as our visit allows it: 103
-  pub raster-103 : getD (run (visitOf faultGiven) rasterOrder (unvisited faultGiven start) .0 .y) 495 0 ≡ 103
-  raster-103 = ap (λ (s : State Planes). getD (s .0 .y) 495 0) (raster-ends step (earlyOf faultGiven) start raster-clear) ∙ samples .1
+  pub raster-103 : getD (run (visitOf faultGiven) rasterOrder (unvisited faultGiven start) .0 .luma) 495 0 ≡ 103
+  raster-103 = ap (λ (s : State Planes). getD (s .0 .luma) 495 0) (raster-ends step (earlyOf faultGiven) start raster-clear) ∙ samples .1
 
   -- so demand 3 does not hold of the old release
   pub old-refuted-here : Demand3 2 2 step (earlyOf faultGiven) (oldVisit 2 step (earlyOf faultGiven)) → ⊥
   old-refuted-here =
       old-refuted step (earlyOf faultGiven) start old-clear
-      (λ e. let k = sym (samples .0) ∙ ap (λ (p : Planes). getD (p .y) 495 0) e ∙ samples .1 in omega arith)
+      (λ e. let k = sym (samples .0) ∙ ap (λ (p : Planes). getD (p .luma) 495 0) e ∙ samples .1 in omega arith)

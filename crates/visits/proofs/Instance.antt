@@ -22,7 +22,7 @@ use Rattle.visits.proofs.Passed.{all-good}
 
 pub asks-place : (d : Given) → AsksPlace (d .size .w) (d .size .h) (earlyOf d)
 unfolding earlyOf
-asks-place d s r e = let g = all-good d (length (s .0 .y)) (length (s .0 .u)) (length (s .0 .v)) (s .1) r e in (g .column, g .row)
+asks-place d s r e = let g = all-good d (length (s .0 .luma)) (length (s .0 .u)) (length (s .0 .v)) (s .1) r e in (g .column, g .row)
 
 pub commutes : (d : Given) → 0 < d .size .w → Commutes (d .size .w) (stepOf (heldOf d))
 commutes d wide = step-commute (heldOf d) wide
@@ -30,8 +30,8 @@ commutes d wide = step-commute (heldOf d) wide
 -- the planes keep their lengths
 pub fit-kept : (d : Given) (i : ℕ) (p : Planes) → Fit d p → Fit d (stepOf (heldOf d) i p)
 fit-kept d i p f =
-    let k = macroblock-sized (heldOf d) (i % d .size .w) (i / d .size .w) p p (record { y = refl; u = refl; v = refl }) in
-    record { luma = k .y ∙ f .luma; cb = k .u ∙ f .cb; cr = k .v ∙ f .cr }
+    let k = macroblock-sized (heldOf d) (i % d .size .w) (i / d .size .w) p p (record { luma = refl; u = refl; v = refl }) in
+    record { luma = k .luma ∙ f .luma; cb = k .u ∙ f .cb; cr = k .v ∙ f .cr }
 
 -- a grid with no entry above `top` holds none anywhere
 module _ (xs : List ℕ) (top : ℕ) (most : (i : ℕ) → getD xs i 0 ≤ top) where
@@ -60,7 +60,7 @@ qps-fine qps b w x y =
 pub passes-valid : (d : Given) → Sound d → Passes (d .size .w) (d .size .h) (earlyOf d) (Fit d)
 unfolding earlyOf
 passes-valid d v s f l b x y hx hy =
-    none-applies (checks d (length (s .0 .y)) (length (s .0 .u)) (length (s .0 .v)) (s .1) (x, y)) (
+    none-applies (checks d (length (s .0 .luma)) (length (s .0 .u)) (length (s .0 .v)) (s .1) (x, y)) (
       v .sides,
       (
         rw (lt-leb (d .size .w) x hx, lt-leb (d .size .h) y hy),

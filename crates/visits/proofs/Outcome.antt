@@ -45,7 +45,7 @@ module _ {W : ℕ} {S : Type 0} {step : ℕ → S → S} {early : State S → At
   -- the ways out: a refusal, and done
   pub refused-outcome : {n : ℕ} → answer W early s r ≡ n → n ≢ 0 → Outcome W step early s r n s
   refused-outcome e h =
-      let k : eqb (answer W early s r) 0 ≡ false = ne-eqb (answer W early s r) 0 (λ z. h (sym e ∙ z)) in
+      let k : eqb (answer W early s r) 0 ≡ false = ne-eqb (answer W early s r) 0 (λ l. h (sym e ∙ l)) in
       record { number = sym e; planes = rw k; marks = rw k }
 
   pub done-outcome : {p : S} {ms : List ℕ} → answer W early s r ≡ 0 → p ≡ step (r .1 * W + r .0) (s .0) → ms ≡ set (s .1) (r .1 * W + r .0) 1

@@ -19,7 +19,7 @@ use Rattle.visits.specs.Inner.{Inside}
 
 -- what they leave: ly, lu, lv, lm are the lengths of planes and marks
 pub record Good (d : Given) (ly lu lv lm : ℕ) (r : At) : Type 0 where
-  pub size : Sized (d .size)
+  pub sides : Sized (d .size)
   pub column : r .0 < d .size .w
   pub row : r .1 < d .size .h
   pub luma : ly ≡ 256 * (d .size .w * d .size .h)
@@ -44,7 +44,7 @@ module _ (d : Given) (ly lu lv : ℕ) where
       let lent = or-false _ _ (grids .0) in
       let first = or-false _ _ (lent .0) in
       record {
-        size = sized (d .size) (p .0);
+        sides = sized (d .size) (p .0);
         column = leb-false (d .size .w) (r .0) (place .0);
         row = leb-false (d .size .h) (r .1) (place .1);
         luma = equal _ _ (two .0);

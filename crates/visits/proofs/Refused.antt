@@ -138,4 +138,4 @@ module _ {S : Type 0} (step : ℕ → S → S) (early : State S → At → ℕ) 
   marks-refused e d = omega (arith, ap (λ (t : State S). getD (t .1) 1 0) (d s [] .refused (1, 0) not-0))
     where
       not-0 : answer 2 early (s, fresh 2 1) (1, 0) ≢ 0
-      not-0 z = let k : _≡_ {A = ℕ} 14 0 = rw (eq-eqb _ 0 e) at z in omega arith
+      not-0 size = let k : _≡_ {A = ℕ} 14 0 = rw (eq-eqb _ 0 e) at size in omega arith

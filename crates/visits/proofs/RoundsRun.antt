@@ -73,7 +73,7 @@ module _
 
       go : Dec (Marked (s .1) i) → visit W step early s (x, y) .1 .1 ≡ set (s .1) i 1
       go (yes m) =
-          let z = already-exactly W H step early inside s x y e .1 (rw at m) in
+          let size = already-exactly W H step early inside s x y e .1 (rw at m) in
           ap (λ (t : State S). t .1) (refused-unchanged W step early s (x, y) (λ k. omega arith))
           ∙ sym (ap (λ (v : ℕ). set (s .1) i v) (sym m) ∙ set-getD (s .1) i 0)
       go (no u) =

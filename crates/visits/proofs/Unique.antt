@@ -53,11 +53,11 @@ module _
       said = same-answer now r a b
 
       go : Dec (one now r .0 ≡ 0) → one now r .1 ≡ other now r .1
-      go (no h) = a .0 .refused r h ∙ sym (b .0 .refused r (λ z. h (said ∙ z)))
-      go (yes z) = λ i. ((a′ .0 .planes ∙ ap (λ (ms : List ℕ). raster step (W * H) ms start) marks ∙ sym (b′ .0 .planes)) i, marks i)
+      go (no h) = a .0 .refused r h ∙ sym (b .0 .refused r (λ l. h (said ∙ l)))
+      go (yes size) = λ i. ((a′ .0 .planes ∙ ap (λ (ms : List ℕ). raster step (W * H) ms start) marks ∙ sym (b′ .0 .planes)) i, marks i)
         where
           marks : one now r .1 .1 ≡ other now r .1 .1
-          marks = a .0 .own-mark (r .0) (r .1) z ∙ sym (b .0 .own-mark (r .0) (r .1) (sym said ∙ z))
+          marks = a .0 .own-mark (r .0) (r .1) size ∙ sym (b .0 .own-mark (r .0) (r .1) (sym said ∙ size))
 
   -- from one state on
   same-from : {start : S} (now : State S) → ((rs : List At) → Known one start (run one rs now))

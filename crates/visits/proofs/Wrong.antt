@@ -63,7 +63,7 @@ pairStep = stepOf (heldOf pairGiven)
 -- filtering the second changes sample (15, 0)
 pair-moves : pairStep 1 (pairStep 0 pair) ≢ pairStep 0 pair
 unfolding band macroblockAt lumaOf flagAt upTo eight lumaRule lumaEdge lumaWay lumaBoth lumaAt lumaLine normalLine lumaNormal nudgeOf innerOf deltaOf clip3 clip1 average indexOf alphas betas tc0s
-pair-moves e = let k : _≡_ {A = ℕ} 101 100 = ap (λ (p : Planes). getD (p .y) 15 0) e in omega arith
+pair-moves e = let k : _≡_ {A = ℕ} 101 100 = ap (λ (p : Planes). getD (p .luma) 15 0) e in omega arith
 
 -- filters on the first visit and afterwards only sets marks
 pub first-only : Demand3 2 1 pairStep (earlyOf pairGiven) (firstOnly 2 pairStep (earlyOf pairGiven)) → ⊥
@@ -104,7 +104,7 @@ one-fit = record { luma = refl; cb = refl; cr = refl }
 
 one-moves : stepOf (heldOf oneGiven) 0 one ≢ one
 unfolding band macroblockAt lumaOf flagAt upTo eight lumaRule lumaEdge lumaWay lumaBoth lumaAt lumaLine normalLine lumaNormal nudgeOf innerOf deltaOf clip3 clip1 average indexOf alphas betas tc0s
-one-moves e = let k : _≡_ {A = ℕ} 101 100 = ap (λ (p : Planes). getD (p .y) 3 0) e in omega arith
+one-moves e = let k : _≡_ {A = ℕ} 101 100 = ap (λ (p : Planes). getD (p .luma) 3 0) e in omega arith
 
 -- leaves the planes untouched
 pub planes-untouched : Demand3 1 1 (stepOf (heldOf oneGiven)) (earlyOf oneGiven) (idleVisit 1 (stepOf (heldOf oneGiven)) (earlyOf oneGiven)) → ⊥

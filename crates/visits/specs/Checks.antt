@@ -24,7 +24,7 @@ pub record Given : Type 0 where
   pub t8s : List ℕ
 
 abbrev pub given : Size → Offsets → List ℕ → List ℕ → List ℕ → Given
-given z o s q t = record { size = z; offsets = o; strengths = s; qps = q; t8s = t }
+given size o s q t = record { size = size; offsets = o; strengths = s; qps = q; t8s = t }
 
 -- .. as the filter takes it
 abbrev pub heldOf : Given → Held
@@ -81,7 +81,7 @@ abbrev pub checks : Given → ℕ → ℕ → ℕ → List ℕ → At → List (
 checks d ly lu lv ms r = numbers d ly lu lv (length ms) r ++ values (d .size .w) (d .strengths) (d .qps) (d .t8s) ms r
 
 unfoldable pub earlyOf : Given → State Planes → At → ℕ
-earlyOf d s r = refusal (checks d (length (s .0 .y)) (length (s .0 .u)) (length (s .0 .v)) (s .1) r)
+earlyOf d s r = refusal (checks d (length (s .0 .luma)) (length (s .0 .u)) (length (s .0 .v)) (s .1) r)
 
 -- ---- "the same valid size, buffer lengths, strengths, QPs, 8x8 flags and offsets": valid wherever a visit
 -- may read
@@ -94,6 +94,6 @@ pub record Sound (d : Given) : Type 0 where
   pub strength : (i : ℕ) → getD (d .strengths) i 0 ≤ 4
 
 pub record Fit (d : Given) (p : Planes) : Type 0 where
-  pub luma : length (p .y) ≡ 256 * (d .size .w * d .size .h)
+  pub luma : length (p .luma) ≡ 256 * (d .size .w * d .size .h)
   pub cb : length (p .u) ≡ 64 * (d .size .w * d .size .h)
   pub cr : length (p .v) ≡ 64 * (d .size .w * d .size .h)

@@ -64,7 +64,7 @@ fn bad_qps(qps: &[u8], w: usize, x: usize, y: usize) -> bool
 
 // Checks 1, 2, 3, 4 and 6, which read lengths alone.
 fn bad_numbers(
-    z: Size,
+    size: Size,
     x: usize,
     y: usize,
     o: Offsets,
@@ -76,13 +76,13 @@ fn bad_numbers(
     t8s: &[u8],
     marks: usize,
 ) -> u32
-    ensures { λ r. ⌜ r ≡ refusal (numbers (given z o (now (strengths .entry)) (now (qps .entry)) (now (t8s .entry))) luma u v marks (x, y)) ⌝ }
+    ensures { λ r. ⌜ r ≡ refusal (numbers (given size o (now (strengths .entry)) (now (qps .entry)) (now (t8s .entry))) luma u v marks (x, y)) ⌝ }
 {
-    if bad_size(z) {
+    if bad_size(size) {
         return 1;
     }
-    let w = z.w;
-    let h = z.h;
+    let w = size.w;
+    let h = size.h;
     if (w <= x) | (h <= y) {
         return 2;
     }
@@ -129,7 +129,7 @@ fn bad_values(
 
 // All of them.
 pub fn refuse(
-    z: Size,
+    size: Size,
     x: usize,
     y: usize,
     o: Offsets,
@@ -141,11 +141,11 @@ pub fn refuse(
     t8s: &[u8],
     marks: &[u8],
 ) -> u32
-    ensures { λ r. ⌜ r ≡ refusal (checks (given z o (now (strengths .entry)) (now (qps .entry)) (now (t8s .entry))) luma u v (now (marks .entry)) (x, y)) ⌝ }
+    ensures { λ r. ⌜ r ≡ refusal (checks (given size o (now (strengths .entry)) (now (qps .entry)) (now (t8s .entry))) luma u v (now (marks .entry)) (x, y)) ⌝ }
 {
-    let n = bad_numbers(z, x, y, o, luma, u, v, strengths, qps, t8s, marks.len());
+    let n = bad_numbers(size, x, y, o, luma, u, v, strengths, qps, t8s, marks.len());
     if n != 0 {
         return n;
     }
-    bad_values(z.w, x, y, strengths, qps, t8s, marks)
+    bad_values(size.w, x, y, strengths, qps, t8s, marks)
 }

@@ -40,7 +40,7 @@ fn waits(marks: &[u8], w: usize, x: usize, y: usize) -> bool
 
 // Macroblock (x, y) filtered and marked, or a refusal.
 pub fn visit(
-    z: Size,
+    size: Size,
     x: usize,
     y: usize,
     o: Offsets,
@@ -52,10 +52,10 @@ pub fn visit(
     t8s: &[u8],
     marks: &mut [u8],
 ) -> u32
-    ensures { λ r. ⌜ VisitOutcome (given z o (now (strengths .entry)) (now (qps .entry)) (now (t8s .entry))) (planes (now (luma .entry)) (now (u .entry)) (now (v .entry)), now (marks .entry)) (x, y) r (planes (now (luma .exit)) (now (u .exit)) (now (v .exit)), now (marks .exit)) ⌝ }
+    ensures { λ r. ⌜ VisitOutcome (given size o (now (strengths .entry)) (now (qps .entry)) (now (t8s .entry))) (planes (now (luma .entry)) (now (u .entry)) (now (v .entry)), now (marks .entry)) (x, y) r (planes (now (luma .exit)) (now (u .exit)) (now (v .exit)), now (marks .exit)) ⌝ }
 {
     let n = refuse(
-        z,
+        size,
         x,
         y,
         o,
@@ -70,7 +70,7 @@ pub fn visit(
     if n != 0 {
         return n;
     }
-    let w = z.w;
+    let w = size.w;
     let i = y * w + x;
     if marks[i] == 1 {
         return 13;
@@ -86,7 +86,7 @@ pub fn visit(
 
 // Visits of (xs[k], ys[k]) for each k in turn, each answer in answers[k].
 fn each(
-    z: Size,
+    size: Size,
     o: Offsets,
     xs: &[usize],
     ys: &[usize],
@@ -100,11 +100,23 @@ fn each(
     answers: &mut [u32],
 )
     requires { ⌜ (length (now ys) ≡ length (now xs)) × (length (now answers) ≡ length (now xs)) ⌝ }
-    ensures { λ _. ⌜ Replayed (given z o (now (strengths .entry)) (now (qps .entry)) (now (t8s .entry))) (now (xs .entry)) (now (ys .entry)) (planes (now (luma .entry)) (now (u .entry)) (now (v .entry)), now (marks .entry)) (planes (now (luma .exit)) (now (u .exit)) (now (v .exit)), now (marks .exit)) (now (answers .exit)) ⌝ }
+    ensures { λ _. ⌜ Replayed (given size o (now (strengths .entry)) (now (qps .entry)) (now (t8s .entry))) (now (xs .entry)) (now (ys .entry)) (planes (now (luma .entry)) (now (u .entry)) (now (v .entry)), now (marks .entry)) (planes (now (luma .exit)) (now (u .exit)) (now (v .exit)), now (marks .exit)) (now (answers .exit)) ⌝ }
 {
     let mut k: usize = 0;
     while k < xs.len() {
-        let n = visit(z, xs[k], ys[k], o, luma, u, v, strengths, qps, t8s, marks);
+        let n = visit(
+            size,
+            xs[k],
+            ys[k],
+            o,
+            luma,
+            u,
+            v,
+            strengths,
+            qps,
+            t8s,
+            marks,
+        );
         answers[k] = n;
         k += 1;
     }
@@ -112,7 +124,7 @@ fn each(
 
 // Requests as they arrived, replayed. Lists of different lengths are refused with 4.
 pub fn replay(
-    z: Size,
+    size: Size,
     o: Offsets,
     xs: &[usize],
     ys: &[usize],
@@ -125,13 +137,13 @@ pub fn replay(
     marks: &mut [u8],
     answers: &mut [u32],
 ) -> u32
-    ensures { λ r. ⌜ ReplayOutcome (given z o (now (strengths .entry)) (now (qps .entry)) (now (t8s .entry))) (now (xs .entry)) (now (ys .entry)) (planes (now (luma .entry)) (now (u .entry)) (now (v .entry)), now (marks .entry)) (now (answers .entry)) r (planes (now (luma .exit)) (now (u .exit)) (now (v .exit)), now (marks .exit)) (now (answers .exit)) ⌝ }
+    ensures { λ r. ⌜ ReplayOutcome (given size o (now (strengths .entry)) (now (qps .entry)) (now (t8s .entry))) (now (xs .entry)) (now (ys .entry)) (planes (now (luma .entry)) (now (u .entry)) (now (v .entry)), now (marks .entry)) (now (answers .entry)) r (planes (now (luma .exit)) (now (u .exit)) (now (v .exit)), now (marks .exit)) (now (answers .exit)) ⌝ }
 {
     if (ys.len() != xs.len()) | (answers.len() != xs.len()) {
         return 4;
     }
     each(
-        z,
+        size,
         o,
         xs,
         ys,

@@ -5,7 +5,7 @@ use mathlib.Core.Path.{sym, _∙_}
 use mathlib.Core.Bool.{false}
 use Rattle.motion.specs.Grids.{Grids, grids}
 use Rattle.strengths.proofs.Outcomes.{refused, untrue-12}
-use Rattle.deblock.specs.Numbers.{size}
+use Rattle.deblock.specs.Numbers.{sizeOf}
 use Rattle.deblock.proofs.Kept.{kind-kept, above, upto}
 use Rattle.deblock.proofs.derivation.deblock_strengths_kind.Statement.{statement}
 use Rattle.deblock.proofs.derivation.deblock_strengths_kind.Tie as tie

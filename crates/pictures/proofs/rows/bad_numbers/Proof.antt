@@ -11,20 +11,20 @@ use Rattle.pictures.specs.Filtering.{badRange, badPlanes, badLent}
 use Rattle.pictures.proofs.rows.bad_numbers.Statement.{statement}
 use Rattle.pictures.proofs.rows.bad_numbers.Tie as tie
 
-ok : (c : tie.Else1) → badSize (c .before .before .args .z) ≡ false
+ok : (c : tie.Else1) → badSize (c .before .before .args .size) ≡ false
 ok c = sym (c .before .bad-size .ensures) ∙ c .if1 .left
 
-small : (c : tie.Else1) → Sized (c .before .before .args .z)
-small c = sized (c .before .before .args .z) (ok c)
+small : (c : tie.Else1) → Sized (c .before .before .args .size)
+small c = sized (c .before .before .args .size) (ok c)
 
 -- the checks that have passed
-two : (c : tie.Else2) {m k : ℕ} → let a = c .before .before .before .args in m ≡ k → m ≡ cond (badSize (a .z)) 1 (cond (badRange (a .z) (a .a) (a .b)) 2 k)
+two : (c : tie.Else2) {m k : ℕ} → let a = c .before .before .before .args in m ≡ k → m ≡ cond (badSize (a .size)) 1 (cond (badRange (a .size) (a .a) (a .b)) 2 k)
 two c e = skip _ (ok (c .before)) (skip _ (c .if2 .left) e)
 
-three : (c : tie.Else3) → let a = c .before .before .before .before .before .args in badPlanes (a .z .w * a .z .h) (a .y) (a .u) (a .v) ≡ false
+three : (c : tie.Else3) → let a = c .before .before .before .before .before .args in badPlanes (a .size .w * a .size .h) (a .y) (a .u) (a .v) ≡ false
 three c = sym (c .before .bad-planes .ensures) ∙ c .if3 .left
 
-four : (c : tie.Else4) → let a = c .before .before .before .before .before .before .before .args in badLent (a .z .w * a .z .h) (a .strengths) (a .qps) (a .t8s) ≡ false
+four : (c : tie.Else4) → let a = c .before .before .before .before .before .before .before .args in badLent (a .size .w * a .size .h) (a .strengths) (a .qps) (a .t8s) ≡ false
 four c = sym (c .before .bad-lent .ensures) ∙ c .if4 .left
 
 returns-3 : tie.Need-returns-3

@@ -19,27 +19,27 @@ given s = let a = s .args in planes (a .y .now) (a .u .now) (a .v .now)
 abbrev start : tie.Else1 → tie.Start
 start c = c .before .before .before .before .before .before .before .before
 
-zero : (c : tie.Else1) → let s = start c in let a = s .args in first (a .z) (a .a) (a .b) (a .o) (held-by s) (given s) ≡ 0
+zero : (c : tie.Else1) → let s = start c in let a = s .args in first (a .size) (a .a) (a .b) (a .o) (held-by s) (given s) ≡ 0
 zero c = sym (c .before .bad-numbers .ensures) ∙ c .if1 .left
 
-ok : (c : tie.Else1) → let a = start c .args in Good (a .z) (a .a) (a .b) (length (a .y .now)) (length (a .u .now)) (length (a .v .now)) (length (a .strengths .now)) (length (a .qps .now)) (length (a .t8s .now))
-ok c = let a = start c .args in good (a .z) (a .a) (a .b) (a .o) _ _ _ _ _ _ (zero c)
+ok : (c : tie.Else1) → let a = start c .args in Good (a .size) (a .a) (a .b) (length (a .y .now)) (length (a .u .now)) (length (a .v .now)) (length (a .strengths .now)) (length (a .qps .now)) (length (a .t8s .now))
+ok c = let a = start c .args in good (a .size) (a .a) (a .b) (a .o) _ _ _ _ _ _ (zero c)
 
-zero-2 : (c : tie.Else2) → let s = start (c .before .before) in let a = s .args in second (a .z) (a .a) (a .b) (a .o) (held-by s) (given s) ≡ 0
+zero-2 : (c : tie.Else2) → let s = start (c .before .before) in let a = s .args in second (a .size) (a .a) (a .b) (a .o) (held-by s) (given s) ≡ 0
 zero-2 c = sym (c .before .bad-values .ensures) ∙ c .if2 .left
 
 returns : tie.Need-returns
 returns c =
     let s = c .before .before .before .before .before .before .before .before in
     let a = s .args in
-    refused-first (a .z) (a .a) (a .b) (a .o) (held-by s) (given s) _ (c .before .bad-numbers .ensures) (c .if1 .taken)
+    refused-first (a .size) (a .a) (a .b) (a .o) (held-by s) (given s) _ (c .before .bad-numbers .ensures) (c .if1 .taken)
 
 values : tie.Need-bad-values-requires
 values c κs =
     let a = start c .args in
     let g = ok c in
-    let e = ends (a .z) (a .a) (a .b) _ _ _ _ _ _ g in
-    let m = g .size .most in
+    let e = ends (a .size) (a .a) (a .b) _ _ _ _ _ _ g in
+    let m = g .sides .most in
     ((g .order, omega arith), (omega (arith, g .strength), (omega (arith, g .qp), λ f. omega (arith, g .flag f))))
 
 returns-2 : tie.Need-returns-2
@@ -47,7 +47,7 @@ returns-2 c =
     let e = c .before .before in
     let s = start e in
     let a = s .args in
-    refused-second (a .z) (a .a) (a .b) (a .o) (held-by s) (given s) _ (zero e) (c .before .bad-values .ensures) (c .if2 .taken)
+    refused-second (a .size) (a .a) (a .b) (a .o) (held-by s) (given s) _ (zero e) (c .before .bad-values .ensures) (c .if2 .taken)
 
 rows : tie.Need-rows-requires
 rows c κs =
@@ -55,7 +55,7 @@ rows c κs =
     let e = t .before .before .before in
     let a = start e .args in
     let g = ok e in
-    (t .all .ensures, (g .order, g .line, room (a .z) (a .a) (a .b) _ _ _ _ _ _ g))
+    (t .all .ensures, (g .order, g .line, room (a .size) (a .a) (a .b) _ _ _ _ _ _ g))
 
 returns-3 : tie.Need-returns-3
 returns-3 c =
@@ -64,7 +64,7 @@ returns-3 c =
     let e = f .before .before in
     let s = start e in
     let a = s .args in
-    done (a .z) (a .a) (a .b) (a .o) (held-by s) (given s) _ (zero e) (zero-2 f) (r .rows .ensures)
+    done (a .size) (a .a) (a .b) (a .o) (held-by s) (given s) _ (zero e) (zero-2 f) (r .rows .ensures)
 
 pub filter-frame-rows-spec : {M : Type 1} → statement M
 filter-frame-rows-spec =

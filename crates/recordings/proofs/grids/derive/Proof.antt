@@ -15,14 +15,14 @@ use Rattle.recordings.proofs.grids.derive.Statement.{statement}
 use Rattle.recordings.proofs.grids.derive.Tie as tie
 
 abbrev Inv : tie.InvT-loop
-Inv z n inter nnz ref0 mv0 ref1 mv1 t8s s₀ done₀ i₀ s done i =
+Inv size n inter nnz ref0 mv0 ref1 mv1 t8s s₀ done₀ i₀ s done i =
     (i ≤ n)
     × (length s ≡ length s₀)
-    × (done ≡ every i (served z (grids inter nnz ref0 mv0 ref1 mv1) t8s (length s₀)))
-    × (s ≡ derivedTo z (grids inter nnz ref0 mv0 ref1 mv1) t8s i s₀)
+    × (done ≡ every i (served size (grids inter nnz ref0 mv0 ref1 mv1) t8s (length s₀)))
+    × (s ≡ derivedTo size (grids inter nnz ref0 mv0 ref1 mv1) t8s i s₀)
 
 abbrev μ : tie.MeasureT-loop
-μ z n inter nnz ref0 mv0 ref1 mv1 t8s s₀ done₀ i₀ s done i = n - i
+μ size n inter nnz ref0 mv0 ref1 mv1 t8s s₀ done₀ i₀ s done i = n - i
 
 loop-again : tie.Need-loop-again Inv μ
 loop-again c =
@@ -35,7 +35,7 @@ loop-again c =
     let a = l .before .before .before .before .before .args in
     let g = grids (a .inter .now) (a .nnz .now) (a .ref0 .now) (a .mv0 .now) (a .ref1 .now) (a .mv1 .now) in
     let i = l .loop .inv in
-    let t = turn (a .z) g (a .t8s .now) (l .loop .i) (length (a .s .now)) (i .1) (k .column .ensures) (r .row .ensures) (b .byte-at .ensures) (q .derive-mb .ensures) in (
+    let t = turn (a .size) g (a .t8s .now) (l .loop .i) (length (a .s .now)) (i .1) (k .column .ensures) (r .row .ensures) (b .byte-at .ensures) (q .derive-mb .ensures) in (
       omega (arith, test .loop-test .taken),
       omega (arith, i, q .derive-mb .kept),
       every-more _ _ (i .2) (ap (λ (x : Bool). l .loop .done && x) (t .0)),

@@ -13,7 +13,7 @@ use Rattle.recordings.proofs.orders.visits_in.Statement.{statement}
 use Rattle.recordings.proofs.orders.visits_in.Tie as tie
 
 abbrev Inv : tie.InvT-loop
-Inv way z n o y₀ u₀ v₀ s qps t8s marks₀ t₀ t-end y u v marks t =
+Inv way size n o y₀ u₀ v₀ s qps t8s marks₀ t₀ t-end y u v marks t =
     (t ≤ t-end)
     × (t-end ≤ 14400)
     × (t-end ≡ turnsOf n)
@@ -21,10 +21,10 @@ Inv way z n o y₀ u₀ v₀ s qps t8s marks₀ t₀ t-end y u v marks t =
     × (length u ≡ length u₀)
     × (length v ≡ length v₀)
     × (length marks ≡ length marks₀)
-    × ((planes y u v, marks) ≡ visitsTo t way (given z o s qps t8s) n (planes y₀ u₀ v₀, marks₀))
+    × ((planes y u v, marks) ≡ visitsTo t way (given size o s qps t8s) n (planes y₀ u₀ v₀, marks₀))
 
 abbrev μ : tie.MeasureT-loop
-μ way z n o y₀ u₀ v₀ s qps t8s marks₀ t₀ t-end y u v marks t = t-end - t
+μ way size n o y₀ u₀ v₀ s qps t8s marks₀ t₀ t-end y u v marks t = t-end - t
 
 loop-holds : tie.Need-loop-holds Inv μ
 loop-holds c = (omega arith, c .turns .ensures .0, c .turns .ensures .1, refl, refl, refl, refl, upTo-none _ _)

@@ -25,39 +25,39 @@ given c = let a = c .args in grids (a .inter .now) (a .nnz .now) (a .ref-id .now
 abbrev start : tie.Else1 → tie.Start
 start c = c .before .before .before .before .before
 
-zero : (c : tie.Else1) → let s = start c in let a = s .args in refusal (checks (a .z) (a .p .x) (a .p .y) (given s) (length (a .strengths .now))) ≡ 0
+zero : (c : tie.Else1) → let s = start c in let a = s .args in refusal (checks (a .size) (a .p .x) (a .p .y) (given s) (length (a .strengths .now))) ≡ 0
 zero c = sym (c .before .refuse .ensures) ∙ c .if1 .left
 
-ok : (c : tie.Else1) → let s = start c in let a = s .args in Good (a .z) (a .p .x) (a .p .y) (given s) (length (a .strengths .now))
-ok c = let s = start c in let a = s .args in is-good (a .z) (a .p .x) (a .p .y) (given s) (length (a .strengths .now)) (zero c)
+ok : (c : tie.Else1) → let s = start c in let a = s .args in Good (a .size) (a .p .x) (a .p .y) (given s) (length (a .strengths .now))
+ok c = let s = start c in let a = s .args in is-good (a .size) (a .p .x) (a .p .y) (given s) (length (a .strengths .now)) (zero c)
 
-room : (c : tie.Else1) → let a = start c .args in 32 * (a .p .y * a .z .w + a .p .x) + 32 ≤ length (a .strengths .now)
-room c = let a = start c .args in let g = ok c in omega (arith, index-lt (a .z .w) (a .z .h) (a .p .x) (a .p .y) (g .column) (g .line), g .strengths)
+room : (c : tie.Else1) → let a = start c .args in 32 * (a .p .y * a .size .w + a .p .x) + 32 ≤ length (a .strengths .now)
+room c = let a = start c .args in let g = ok c in omega (arith, index-lt (a .size .w) (a .size .h) (a .p .x) (a .p .y) (g .column) (g .line), g .strengths)
 
 returns : tie.Need-returns
-returns c = let s = c .before .before .before .before .before in let a = s .args in refused (a .z) (a .p .x) (a .p .y) (a .p .t8) (given s) false (a .strengths .now) _ (c .before .refuse .ensures) (c .if1 .taken)
+returns c = let s = c .before .before .before .before .before in let a = s .args in refused (a .size) (a .p .x) (a .p .y) (a .p .t8) (given s) false (a .strengths .now) _ (c .before .refuse .ensures) (c .if1 .taken)
 
 inter : tie.Need-is-inter-requires
 inter c κs =
     let s = start c in
     let a = s .args in
-    inside-of (a .z) (a .p .x) (a .p .y) (given s) (length (a .strengths .now)) (ok c) _ (omega (arith, ok c .inters))
+    inside-of (a .size) (a .p .x) (a .p .y) (given s) (length (a .strengths .now)) (ok c) _ (omega (arith, ok c .inters))
 
 derives : tie.Need-derive-requires
 derives c κs =
     let e = c .before .before .before in
     let s = start e in
     let a = s .args in
-    (holds (a .z) (a .p .x) (a .p .y) (given s) (length (a .strengths .now)) (ok e), (small (a .z) (a .p .x) (a .p .y) (given s) (length (a .strengths .now)) (ok e), room e))
+    (holds (a .size) (a .p .x) (a .p .y) (given s) (length (a .strengths .now)) (ok e), (small (a .size) (a .p .x) (a .p .y) (given s) (length (a .strengths .now)) (ok e), room e))
 
 -- the kind that is handed on is true
-true-kind : (c : tie.After-kind-of) → let s = start (c .before .before) in let a = s .args in isKind (given s) (a .z .w) (a .p .x) (a .p .y) (c .kind-of .result) ≡ true
+true-kind : (c : tie.After-kind-of) → let s = start (c .before .before) in let a = s .args in isKind (given s) (a .size .w) (a .p .x) (a .p .y) (c .kind-of .result) ≡ true
 true-kind c =
     let e = c .before .before in
     let s = start e in
     let a = s .args in
-    ap (λ (k : MbKind). isKind (given s) (a .z .w) (a .p .x) (a .p .y) k) (c .kind-of .ensures ∙ ap (λ (b : Bool). kindOf b false false) (c .before .is-inter .ensures))
-    ∙ flags-kind (given s) (a .z .w) (a .p .x) (a .p .y) (agrees (a .z) (a .p .x) (a .p .y) (given s) (length (a .strengths .now)) (zero e)) false false refl
+    ap (λ (k : MbKind). isKind (given s) (a .size .w) (a .p .x) (a .p .y) k) (c .kind-of .ensures ∙ ap (λ (b : Bool). kindOf b false false) (c .before .is-inter .ensures))
+    ∙ flags-kind (given s) (a .size .w) (a .p .x) (a .p .y) (agrees (a .size) (a .p .x) (a .p .y) (given s) (length (a .strengths .now)) (zero e)) false false refl
 
 returns-2 : tie.Need-returns-2
 returns-2 c =
@@ -65,7 +65,7 @@ returns-2 c =
     let e = k .before .before in
     let s = start e in
     let a = s .args in
-    done (a .z) (a .p .x) (a .p .y) (a .p .t8) (given s) false (a .strengths .now) (k .kind-of .result) _ (zero e) refl (true-kind k) (c .before .before .derive .ensures)
+    done (a .size) (a .p .x) (a .p .y) (a .p .t8) (given s) false (a .strengths .now) (k .kind-of .result) _ (zero e) refl (true-kind k) (c .before .before .derive .ensures)
 
 pub derive-mb-spec : {M : Type 1} → statement M
 derive-mb-spec = tie.close (tie.spec (λ c κs. search needs) returns inter (λ c κs. search needs) derives (λ c. search needs) returns-2)

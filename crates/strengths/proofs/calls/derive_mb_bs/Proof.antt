@@ -25,54 +25,54 @@ given c = let a = c .args in grids (a .inter .now) (a .nnz .now) (a .ref-id .now
 abbrev start : tie.Else1 → tie.Start
 start c = c .before .before .before .before .before
 
-zero : (c : tie.Else1) → let s = start c in let a = s .args in refusal (checks (a .z) (a .f .x) (a .f .y) (given s) (length (a .strengths .now))) ≡ 0
+zero : (c : tie.Else1) → let s = start c in let a = s .args in refusal (checks (a .size) (a .f .x) (a .f .y) (given s) (length (a .strengths .now))) ≡ 0
 zero c = sym (c .before .refuse .ensures) ∙ c .if1 .left
 
-ok : (c : tie.Else1) → let s = start c in let a = s .args in Good (a .z) (a .f .x) (a .f .y) (given s) (length (a .strengths .now))
-ok c = let s = start c in let a = s .args in is-good (a .z) (a .f .x) (a .f .y) (given s) (length (a .strengths .now)) (zero c)
+ok : (c : tie.Else1) → let s = start c in let a = s .args in Good (a .size) (a .f .x) (a .f .y) (given s) (length (a .strengths .now))
+ok c = let s = start c in let a = s .args in is-good (a .size) (a .f .x) (a .f .y) (given s) (length (a .strengths .now)) (zero c)
 
-room : (c : tie.Else1) → let a = start c .args in 32 * (a .f .y * a .z .w + a .f .x) + 32 ≤ length (a .strengths .now)
-room c = let a = start c .args in let g = ok c in omega (arith, index-lt (a .z .w) (a .z .h) (a .f .x) (a .f .y) (g .column) (g .line), g .strengths)
+room : (c : tie.Else1) → let a = start c .args in 32 * (a .f .y * a .size .w + a .f .x) + 32 ≤ length (a .strengths .now)
+room c = let a = start c .args in let g = ok c in omega (arith, index-lt (a .size .w) (a .size .h) (a .f .x) (a .f .y) (g .column) (g .line), g .strengths)
 
 returns : tie.Need-returns
-returns c = let s = c .before .before .before .before .before in let a = s .args in refused (a .z) (a .f .x) (a .f .y) (a .f .t8) (given s) _ (a .strengths .now) _ (c .before .refuse .ensures) (c .if1 .taken)
+returns c = let s = c .before .before .before .before .before in let a = s .args in refused (a .size) (a .f .x) (a .f .y) (a .f .t8) (given s) _ (a .strengths .now) _ (c .before .refuse .ensures) (c .if1 .taken)
 
 flags : tie.Need-bad-flags-requires
 flags c κs =
     let s = start c in
     let a = s .args in
-    (holds (a .z) (a .f .x) (a .f .y) (given s) (length (a .strengths .now)) (ok c), (small (a .z) (a .f .x) (a .f .y) (given s) (length (a .strengths .now)) (ok c), agrees (a .z) (a .f .x) (a .f .y) (given s) (length (a .strengths .now)) (zero c)))
+    (holds (a .size) (a .f .x) (a .f .y) (given s) (length (a .strengths .now)) (ok c), (small (a .size) (a .f .x) (a .f .y) (given s) (length (a .strengths .now)) (ok c), agrees (a .size) (a .f .x) (a .f .y) (given s) (length (a .strengths .now)) (zero c)))
 
 returns-2 : tie.Need-returns-2
 returns-2 c =
     let e = c .before .before in
     let s = start e in
     let a = s .args in
-    untrue-12 (a .z) (a .f .x) (a .f .y) (a .f .t8) (given s) _ (a .strengths .now) (zero e) (sym (c .before .bad-flags .ensures) ∙ c .if2 .taken)
+    untrue-12 (a .size) (a .f .x) (a .f .y) (a .f .t8) (given s) _ (a .strengths .now) (zero e) (sym (c .before .bad-flags .ensures) ∙ c .if2 .taken)
 
 inter : tie.Need-is-inter-requires
 inter c κs =
     let e = c .before .before in
     let s = start e in
     let a = s .args in
-    inside-of (a .z) (a .f .x) (a .f .y) (given s) (length (a .strengths .now)) (ok e) _ (omega (arith, ok e .inters))
+    inside-of (a .size) (a .f .x) (a .f .y) (given s) (length (a .strengths .now)) (ok e) _ (omega (arith, ok e .inters))
 
 derives : tie.Need-derive-requires
 derives c κs =
     let e = c .before .before .before .before .before in
     let s = start e in
     let a = s .args in
-    (holds (a .z) (a .f .x) (a .f .y) (given s) (length (a .strengths .now)) (ok e), (small (a .z) (a .f .x) (a .f .y) (given s) (length (a .strengths .now)) (ok e), room e))
+    (holds (a .size) (a .f .x) (a .f .y) (given s) (length (a .strengths .now)) (ok e), (small (a .size) (a .f .x) (a .f .y) (given s) (length (a .strengths .now)) (ok e), room e))
 
 -- the kind that is handed on is true
-true-kind : (c : tie.After-kind-of) → let s = start (c .before .before .before .before) in let a = s .args in isKind (given s) (a .z .w) (a .f .x) (a .f .y) (c .kind-of .result) ≡ true
+true-kind : (c : tie.After-kind-of) → let s = start (c .before .before .before .before) in let a = s .args in isKind (given s) (a .size .w) (a .f .x) (a .f .y) (c .kind-of .result) ≡ true
 true-kind c =
     let t = c .before .before in
     let e = t .before .before in
     let s = start e in
     let a = s .args in
-    ap (λ (k : MbKind). isKind (given s) (a .z .w) (a .f .x) (a .f .y) k) (c .kind-of .ensures ∙ ap (λ (b : Bool). kindOf b (a .f .flat) (a .f .uniform)) (c .before .is-inter .ensures))
-    ∙ flags-kind (given s) (a .z .w) (a .f .x) (a .f .y) (agrees (a .z) (a .f .x) (a .f .y) (given s) (length (a .strengths .now)) (zero e)) (a .f .flat) (a .f .uniform) (sym (t .before .bad-flags .ensures) ∙ t .if2 .left)
+    ap (λ (k : MbKind). isKind (given s) (a .size .w) (a .f .x) (a .f .y) k) (c .kind-of .ensures ∙ ap (λ (b : Bool). kindOf b (a .f .flat) (a .f .uniform)) (c .before .is-inter .ensures))
+    ∙ flags-kind (given s) (a .size .w) (a .f .x) (a .f .y) (agrees (a .size) (a .f .x) (a .f .y) (given s) (length (a .strengths .now)) (zero e)) (a .f .flat) (a .f .uniform) (sym (t .before .bad-flags .ensures) ∙ t .if2 .left)
 
 returns-3 : tie.Need-returns-3
 returns-3 c =
@@ -81,7 +81,7 @@ returns-3 c =
     let e = t .before .before in
     let s = start e in
     let a = s .args in
-    done (a .z) (a .f .x) (a .f .y) (a .f .t8) (given s) _ (a .strengths .now) (k .kind-of .result) _ (zero e) (sym (t .before .bad-flags .ensures) ∙ t .if2 .left) (true-kind k) (c .before .before .derive .ensures)
+    done (a .size) (a .f .x) (a .f .y) (a .f .t8) (given s) _ (a .strengths .now) (k .kind-of .result) _ (zero e) (sym (t .before .bad-flags .ensures) ∙ t .if2 .left) (true-kind k) (c .before .before .derive .ensures)
 
 pub derive-mb-bs-spec : {M : Type 1} → statement M
 derive-mb-bs-spec = tie.close (tie.spec (λ c κs. search needs) returns flags returns-2 inter (λ c κs. search needs) derives (λ c. search needs) returns-3)

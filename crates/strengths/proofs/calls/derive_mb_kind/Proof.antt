@@ -22,37 +22,37 @@ given c = let a = c .args in grids (a .inter .now) (a .nnz .now) (a .ref-id .now
 abbrev start : tie.Else1 → tie.Start
 start c = c .before .before .before .before .before
 
-zero : (c : tie.Else1) → let s = start c in let a = s .args in refusal (checks (a .z) (a .r .x) (a .r .y) (given s) (length (a .strengths .now))) ≡ 0
+zero : (c : tie.Else1) → let s = start c in let a = s .args in refusal (checks (a .size) (a .r .x) (a .r .y) (given s) (length (a .strengths .now))) ≡ 0
 zero c = sym (c .before .refuse .ensures) ∙ c .if1 .left
 
-ok : (c : tie.Else1) → let s = start c in let a = s .args in Good (a .z) (a .r .x) (a .r .y) (given s) (length (a .strengths .now))
-ok c = let s = start c in let a = s .args in is-good (a .z) (a .r .x) (a .r .y) (given s) (length (a .strengths .now)) (zero c)
+ok : (c : tie.Else1) → let s = start c in let a = s .args in Good (a .size) (a .r .x) (a .r .y) (given s) (length (a .strengths .now))
+ok c = let s = start c in let a = s .args in is-good (a .size) (a .r .x) (a .r .y) (given s) (length (a .strengths .now)) (zero c)
 
-room : (c : tie.Else1) → let a = start c .args in 32 * (a .r .y * a .z .w + a .r .x) + 32 ≤ length (a .strengths .now)
-room c = let a = start c .args in let g = ok c in omega (arith, index-lt (a .z .w) (a .z .h) (a .r .x) (a .r .y) (g .column) (g .line), g .strengths)
+room : (c : tie.Else1) → let a = start c .args in 32 * (a .r .y * a .size .w + a .r .x) + 32 ≤ length (a .strengths .now)
+room c = let a = start c .args in let g = ok c in omega (arith, index-lt (a .size .w) (a .size .h) (a .r .x) (a .r .y) (g .column) (g .line), g .strengths)
 
 returns : tie.Need-returns
-returns c = let s = c .before .before .before .before .before in let a = s .args in refused (a .z) (a .r .x) (a .r .y) false (given s) _ (a .strengths .now) _ (c .before .refuse .ensures) (c .if1 .taken)
+returns c = let s = c .before .before .before .before .before in let a = s .args in refused (a .size) (a .r .x) (a .r .y) false (given s) _ (a .strengths .now) _ (c .before .refuse .ensures) (c .if1 .taken)
 
 kind : tie.Need-is-kind-requires
 kind c κs =
     let s = start c in
     let a = s .args in
-    (holds (a .z) (a .r .x) (a .r .y) (given s) (length (a .strengths .now)) (ok c), (small (a .z) (a .r .x) (a .r .y) (given s) (length (a .strengths .now)) (ok c), agrees (a .z) (a .r .x) (a .r .y) (given s) (length (a .strengths .now)) (zero c)))
+    (holds (a .size) (a .r .x) (a .r .y) (given s) (length (a .strengths .now)) (ok c), (small (a .size) (a .r .x) (a .r .y) (given s) (length (a .strengths .now)) (ok c), agrees (a .size) (a .r .x) (a .r .y) (given s) (length (a .strengths .now)) (zero c)))
 
 returns-2 : tie.Need-returns-2
 returns-2 c =
     let e = c .before .before in
     let s = start e in
     let a = s .args in
-    untrue-12 (a .z) (a .r .x) (a .r .y) false (given s) _ (a .strengths .now) (zero e) (ap not (sym (c .before .is-kind .ensures)) ∙ c .if2 .taken)
+    untrue-12 (a .size) (a .r .x) (a .r .y) false (given s) _ (a .strengths .now) (zero e) (ap not (sym (c .before .is-kind .ensures)) ∙ c .if2 .taken)
 
 derives : tie.Need-derive-requires
 derives c κs =
     let e = c .before .before .before in
     let s = start e in
     let a = s .args in
-    (holds (a .z) (a .r .x) (a .r .y) (given s) (length (a .strengths .now)) (ok e), (small (a .z) (a .r .x) (a .r .y) (given s) (length (a .strengths .now)) (ok e), room e))
+    (holds (a .size) (a .r .x) (a .r .y) (given s) (length (a .strengths .now)) (ok e), (small (a .size) (a .r .x) (a .r .y) (given s) (length (a .strengths .now)) (ok e), room e))
 
 returns-3 : tie.Need-returns-3
 returns-3 c =
@@ -61,7 +61,7 @@ returns-3 c =
     let s = start e in
     let a = s .args in
     let k = t .before .is-kind .ensures in
-    done (a .z) (a .r .x) (a .r .y) false (given s) _ (a .strengths .now) (a .r .kind) _ (zero e) (ap not (sym k) ∙ t .if2 .left) (sym k ∙ not-false _ (t .if2 .left)) (c .before .before .derive .ensures)
+    done (a .size) (a .r .x) (a .r .y) false (given s) _ (a .strengths .now) (a .r .kind) _ (zero e) (ap not (sym k) ∙ t .if2 .left) (sym k ∙ not-false _ (t .if2 .left)) (c .before .before .derive .ensures)
 
 pub derive-mb-kind-spec : {M : Type 1} → statement M
 derive-mb-kind-spec = tie.close (tie.spec (λ c κs. search needs) returns kind returns-2 derives (λ c. search needs) returns-3)

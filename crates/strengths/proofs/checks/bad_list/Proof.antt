@@ -28,7 +28,7 @@ idle w x y f h =
     neither false false = refl
 
 empty : (refs : List ℤ) → length refs ≤ 0 → (i : ℕ) → belowNone refs i ≡ false
-empty refs h i = ap (λ (z : ℤ). ltZ z (negsuc 0)) (List·getD-eq-default refs (negsuc 0) {n = i} (omega arith))
+empty refs h i = ap (λ (size : ℤ). ltZ size (negsuc 0)) (List·getD-eq-default refs (negsuc 0) {n = i} (omega arith))
 
 pub bad-list-spec : {M : Type 1} → statement M
 bad-list-spec =

@@ -9,11 +9,11 @@ use Rattle.strengths.proofs.Sized.{Sized, sized}
 use Rattle.strengths.proofs.checks.bad_numbers.Statement.{statement}
 use Rattle.strengths.proofs.checks.bad_numbers.Tie as tie
 
-ok : (c : tie.Else1) → badSize (c .before .before .args .z) ≡ false
+ok : (c : tie.Else1) → badSize (c .before .before .args .size) ≡ false
 ok c = sym (c .before .bad-size .ensures) ∙ c .if1 .left
 
-small : (c : tie.Else1) → Sized (c .before .before .args .z)
-small c = sized (c .before .before .args .z) (ok c)
+small : (c : tie.Else1) → Sized (c .before .before .args .size)
+small c = sized (c .before .before .args .size) (ok c)
 
 returns-3 : tie.Need-returns-3
 returns-3 c = simp (ok (c .before .before), c .before .if2 .left, ne-eqb _ _ (c .if3 .taken))

@@ -9,5 +9,5 @@ bad-size-spec =
     tie.close
     (tie.spec
     (λ c. simp (c .if1 .taken))
-    (λ c. record { fits = omega (arith, sides (c .before .args .z .w) (c .before .args .z .h) (c .if1 .left)) })
+    (λ c. record { fits = omega (arith, sides (c .before .args .size .w) (c .before .args .size .h) (c .if1 .left)) })
     (λ c. simp (c .if1 .left)))

@@ -22,24 +22,24 @@ given c = let a = c .args in grids (a .inter .now) (a .nnz .now) (a .ref-id .now
 abbrev start : tie.Else1 → tie.Start
 start c = c .before .before .before .before
 
-zero : (c : tie.Else1) → let s = start c in refusal (numbers (s .args .z) (s .args .x) (s .args .y) (given s) (s .args .strengths)) ≡ 0
+zero : (c : tie.Else1) → let s = start c in refusal (numbers (s .args .size) (s .args .x) (s .args .y) (given s) (s .args .strengths)) ≡ 0
 zero c = sym (c .before .bad-numbers .ensures) ∙ c .if1 .left
 
-ok : (c : tie.Else1) → let s = start c in Good (s .args .z) (s .args .x) (s .args .y) (given s) (s .args .strengths)
-ok c = let s = start c in good (s .args .z) (s .args .x) (s .args .y) (given s) (s .args .strengths) (zero c)
+ok : (c : tie.Else1) → let s = start c in Good (s .args .size) (s .args .x) (s .args .y) (given s) (s .args .strengths)
+ok c = let s = start c in good (s .args .size) (s .args .x) (s .args .y) (given s) (s .args .strengths) (zero c)
 
 -- then the others decide
-rest : (c : tie.Else1) {n : ℕ} → let s = start c in n ≡ refusal (blocks (s .args .z) (s .args .x) (s .args .y) (given s))
-    → n ≡ refusal (checks (s .args .z) (s .args .x) (s .args .y) (given s) (s .args .strengths))
+rest : (c : tie.Else1) {n : ℕ} → let s = start c in n ≡ refusal (blocks (s .args .size) (s .args .x) (s .args .y) (given s))
+    → n ≡ refusal (checks (s .args .size) (s .args .x) (s .args .y) (given s) (s .args .strengths))
 rest c {n} e =
     let s = start c in
-    e ∙ sym (checks-cut (s .args .z) (s .args .x) (s .args .y) (given s) (s .args .strengths) ∙ ap (λ (k : ℕ). cond (eqb k 0) (refusal (blocks (s .args .z) (s .args .x) (s .args .y) (given s))) k) (zero c))
+    e ∙ sym (checks-cut (s .args .size) (s .args .x) (s .args .y) (given s) (s .args .strengths) ∙ ap (λ (k : ℕ). cond (eqb k 0) (refusal (blocks (s .args .size) (s .args .x) (s .args .y) (given s))) k) (zero c))
 
 returns : tie.Need-returns
 returns c =
     let s = c .before .before .before .before in
     let e = c .before .bad-numbers .ensures in
-    e ∙ sym (checks-cut (s .args .z) (s .args .x) (s .args .y) (given s) (s .args .strengths) ∙ ap (λ (b : Bool). cond b (refusal (blocks (s .args .z) (s .args .x) (s .args .y) (given s))) (refusal (numbers (s .args .z) (s .args .x) (s .args .y) (given s) (s .args .strengths)))) (ne-eqb _ 0 (λ k. c .if1 .taken (e ∙ k))))
+    e ∙ sym (checks-cut (s .args .size) (s .args .x) (s .args .y) (given s) (s .args .strengths) ∙ ap (λ (b : Bool). cond b (refusal (blocks (s .args .size) (s .args .x) (s .args .y) (given s))) (refusal (numbers (s .args .size) (s .args .x) (s .args .y) (given s) (s .args .strengths)))) (ne-eqb _ 0 (λ k. c .if1 .taken (e ∙ k))))
 
 returns-2 : tie.Need-returns-2
 returns-2 c = rest (c .before .before) (simp (sym (c .before .bad-inter .ensures) ∙ c .if2 .taken))
@@ -69,25 +69,25 @@ returns-5 c =
     (sym (e .before .bad-inter .ensures) ∙ e .if2 .left, sym (λ i. l .bad-list .ensures i || t .before .bad-list2 .ensures i) ∙ t .if3 .left, sym (c .before .disagreeing .ensures) ∙ c .if4 .left))
 
 inter : tie.Need-bad-inter-requires
-inter c κs = let s = start c in inside-of (s .args .z) (s .args .x) (s .args .y) (given s) (s .args .strengths) (ok c) _ (omega (arith, ok c .inters))
+inter c κs = let s = start c in inside-of (s .args .size) (s .args .x) (s .args .y) (given s) (s .args .strengths) (ok c) _ (omega (arith, ok c .inters))
 
 list0 : tie.Need-bad-list-requires
 list0 c κs k =
     let e = c .before .before in
     let s = start e in
-    inside-of (s .args .z) (s .args .x) (s .args .y) (given s) (s .args .strengths) (ok e) _ (omega (arith, ok e .refs))
+    inside-of (s .args .size) (s .args .x) (s .args .y) (given s) (s .args .strengths) (ok e) _ (omega (arith, ok e .refs))
 
 list1 : tie.Need-bad-list-requires-2
 list1 c κs k =
     let e = c .before .before .before in
     let s = start e in
-    list1-inside (s .args .z) (s .args .x) (s .args .y) (given s) (s .args .strengths) (ok e) k
+    list1-inside (s .args .size) (s .args .x) (s .args .y) (given s) (s .args .strengths) (ok e) k
 
 agree : tie.Need-disagreeing-requires
 agree c κs =
     let e = c .before .before .before .before .before in
     let s = start e in
-    inside-of (s .args .z) (s .args .x) (s .args .y) (given s) (s .args .strengths) (ok e) _ (omega (arith, ok e .inters))
+    inside-of (s .args .size) (s .args .x) (s .args .y) (given s) (s .args .strengths) (ok e) _ (omega (arith, ok e .inters))
 
 pub refuse-spec : {M : Type 1} → statement M
 refuse-spec =

@@ -31,7 +31,7 @@ loop-again c =
     let l = c .before .before in
     let s = l .before .args in
     let e : getD (s .s .now) (s .at + l .loop .k * s .step) (pos 0) ≡ getD (s .s .now) (s .at + l .loop .k * s .step) (negsuc 0) = within-any (s .s .now) (s .at + l .loop .k * s .step) (pos 0) (negsuc 0) (omega (arith, bound (c .before))) in
-    (omega arith, some-more _ _ (l .loop .inv .1) (ap (λ (z : ℤ). l .loop .found || ltZ z (negsuc 0)) (back w8 (getD (s .s .now) (s .at + l .loop .k * s .step) (pos 0)) (c .found .given) ∙ e)))
+    (omega arith, some-more _ _ (l .loop .inv .1) (ap (λ (size : ℤ). l .loop .found || ltZ size (negsuc 0)) (back w8 (getD (s .s .now) (s .at + l .loop .k * s .step) (pos 0)) (c .found .given) ∙ e)))
 
 pub four-below-spec : {M : Type 1} → statement M
 four-below-spec =

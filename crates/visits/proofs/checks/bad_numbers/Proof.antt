@@ -16,25 +16,25 @@ use Rattle.visits.proofs.checks.bad_numbers.Tie as tie
 abbrev start : tie.Else1 → tie.Start
 start c = c .before .before .before .before .before
 
-ok : (c : tie.Else1) → badSize (start c .args .z) ≡ false
+ok : (c : tie.Else1) → badSize (start c .args .size) ≡ false
 ok c = sym (c .before .bad-size .ensures) ∙ c .if1 .left
 
-small : (c : tie.Else1) → Sized (start c .args .z)
-small c = sized (start c .args .z) (ok c)
+small : (c : tie.Else1) → Sized (start c .args .size)
+small c = sized (start c .args .size) (ok c)
 
 -- checks 1 to 4 have passed
 abbrev two : tie.Else4 → tie.Else2
 two c = c .before .before .before .before
 
 four : (c : tie.Else4) → let a = start (two c .before) .args in
-    (badLent (a .z .w * a .z .h) (length (a .strengths .now)) (length (a .qps .now)) (length (a .t8s .now)) || not (eqb (a .marks) (a .z .w * a .z .h))) ≡ false
+    (badLent (a .size .w * a .size .h) (length (a .strengths .now)) (length (a .qps .now)) (length (a .t8s .now)) || not (eqb (a .marks) (a .size .w * a .size .h))) ≡ false
 four c =
     let a = start (two c .before) .args in
-    sym (λ i. c .before .bad-lent .ensures i || not (eqb (a .marks) (a .z .w * a .z .h))) ∙ c .if4 .left
+    sym (λ i. c .before .bad-lent .ensures i || not (eqb (a .marks) (a .size .w * a .size .h))) ∙ c .if4 .left
 
 pass-four : (c : tie.Else4) {k later : ℕ} → let a = start (two c .before) .args in k ≡ later
-    → k ≡ cond (badSize (a .z)) 1 (cond (outsideOf (a .z) (a .x) (a .y)) 2 (cond (badPlanes (a .z .w * a .z .h) (a .luma) (a .u) (a .v)) 3
-    (cond (badLent (a .z .w * a .z .h) (length (a .strengths .now)) (length (a .qps .now)) (length (a .t8s .now)) || not (eqb (a .marks) (a .z .w * a .z .h))) 4 later)))
+    → k ≡ cond (badSize (a .size)) 1 (cond (outsideOf (a .size) (a .x) (a .y)) 2 (cond (badPlanes (a .size .w * a .size .h) (a .luma) (a .u) (a .v)) 3
+    (cond (badLent (a .size .w * a .size .h) (length (a .strengths .now)) (length (a .qps .now)) (length (a .t8s .now)) || not (eqb (a .marks) (a .size .w * a .size .h))) 4 later)))
 pass-four c e =
     let three = c .before .before in
     skip 1 (ok (two c .before)) (skip 2 (two c .if2 .left) (skip 3 (sym (three .before .bad-planes .ensures) ∙ three .if3 .left) (skip 4 (four c) e)))
@@ -50,7 +50,7 @@ returns-4 c =
     let two = three .before .before in
     let a = start (two .before) .args in
     skip 1 (ok (two .before)) (skip 2 (two .if2 .left) (skip 3 (sym (three .before .bad-planes .ensures) ∙ three .if3 .left)
-    (stop 4 _ (sym (λ i. c .before .bad-lent .ensures i || not (eqb (a .marks) (a .z .w * a .z .h))) ∙ c .if4 .taken))))
+    (stop 4 _ (sym (λ i. c .before .bad-lent .ensures i || not (eqb (a .marks) (a .size .w * a .size .h))) ∙ c .if4 .taken))))
 
 returns-5 : tie.Need-returns-5
 returns-5 c = pass-four (c .before .before) (stop 6 _ (sym (c .before .bad-offsets .ensures) ∙ c .if5 .taken))

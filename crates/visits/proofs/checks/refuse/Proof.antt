@@ -14,7 +14,7 @@ use Rattle.visits.proofs.checks.refuse.Statement.{statement}
 use Rattle.visits.proofs.checks.refuse.Tie as tie
 
 abbrev data-of : tie.Start → Given
-data-of s = let a = s .args in given (a .z) (a .o) (a .strengths .now) (a .qps .now) (a .t8s .now)
+data-of s = let a = s .args in given (a .size) (a .o) (a .strengths .now) (a .qps .now) (a .t8s .now)
 
 abbrev start : tie.Else1 → tie.Start
 start c = c .before .before .before .before .before .before
@@ -39,13 +39,13 @@ returns c =
     let s = c .before .before .before .before .before .before in
     let a = s .args in
     let e = c .before .bad-numbers .ensures in
-    e ∙ sym (checks-cut (data-of s) (a .luma) (a .u) (a .v) (a .marks .now) (a .x, a .y) ∙ ap (λ (b : Bool). cond b (refusal (values (a .z .w) (a .strengths .now) (a .qps .now) (a .t8s .now) (a .marks .now) (a .x, a .y))) (refusal (numbers (data-of s) (a .luma) (a .u) (a .v) (length (a .marks .now)) (a .x, a .y)))) (ne-eqb _ 0 (λ k. c .if1 .taken (e ∙ k))))
+    e ∙ sym (checks-cut (data-of s) (a .luma) (a .u) (a .v) (a .marks .now) (a .x, a .y) ∙ ap (λ (b : Bool). cond b (refusal (values (a .size .w) (a .strengths .now) (a .qps .now) (a .t8s .now) (a .marks .now) (a .x, a .y))) (refusal (numbers (data-of s) (a .luma) (a .u) (a .v) (length (a .marks .now)) (a .x, a .y)))) (ne-eqb _ 0 (λ k. c .if1 .taken (e ∙ k))))
 
 returns-2 : tie.Need-returns-2
 returns-2 c =
     let s = start (c .before) in
     let a = s .args in
-    c .bad-values .ensures ∙ sym (checks-cut (data-of s) (a .luma) (a .u) (a .v) (a .marks .now) (a .x, a .y) ∙ ap (λ (k : ℕ). cond (eqb k 0) (refusal (values (a .z .w) (a .strengths .now) (a .qps .now) (a .t8s .now) (a .marks .now) (a .x, a .y))) k) (zero (c .before)))
+    c .bad-values .ensures ∙ sym (checks-cut (data-of s) (a .luma) (a .u) (a .v) (a .marks .now) (a .x, a .y) ∙ ap (λ (k : ℕ). cond (eqb k 0) (refusal (values (a .size .w) (a .strengths .now) (a .qps .now) (a .t8s .now) (a .marks .now) (a .x, a .y))) k) (zero (c .before)))
 
 pub refuse-spec : {M : Type 1} → statement M
 refuse-spec = tie.close (tie.spec (λ c κs. search needs) returns bad-values-requires returns-2)

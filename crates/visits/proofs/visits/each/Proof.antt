@@ -14,17 +14,17 @@ use Rattle.visits.proofs.visits.each.Statement.{statement}
 use Rattle.visits.proofs.visits.each.Tie as tie
 
 abbrev Inv : tie.InvT-loop
-Inv z o xs ys luma₀ u₀ v₀ strengths qps t8s marks₀ answers₀ k₀ luma u v marks answers k =
+Inv size o xs ys luma₀ u₀ v₀ strengths qps t8s marks₀ answers₀ k₀ luma u v marks answers k =
     (k ≤ length xs)
     × (length luma ≡ length luma₀)
     × (length u ≡ length u₀)
     × (length v ≡ length v₀)
     × (length marks ≡ length marks₀)
     × (length answers ≡ length answers₀)
-    × Served (visitOf (given z o strengths qps t8s)) (requests xs ys) (planes luma₀ u₀ v₀, marks₀) k (planes luma u v, marks) answers
+    × Served (visitOf (given size o strengths qps t8s)) (requests xs ys) (planes luma₀ u₀ v₀, marks₀) k (planes luma u v, marks) answers
 
 abbrev μ : tie.MeasureT-loop
-μ z o xs ys luma₀ u₀ v₀ strengths qps t8s marks₀ answers₀ k₀ luma u v marks answers k = length xs - k
+μ size o xs ys luma₀ u₀ v₀ strengths qps t8s marks₀ answers₀ k₀ luma u v marks answers k = length xs - k
 
 loop-again : tie.Need-loop-again Inv μ
 loop-again c =

@@ -15,7 +15,7 @@ use Rattle.visits.proofs.visits.visit.Statement.{statement}
 use Rattle.visits.proofs.visits.visit.Tie as tie
 
 abbrev data-of : tie.Start → Given
-data-of s = let a = s .args in given (a .z) (a .o) (a .strengths .now) (a .qps .now) (a .t8s .now)
+data-of s = let a = s .args in given (a .size) (a .o) (a .strengths .now) (a .qps .now) (a .t8s .now)
 
 abbrev state : tie.Start → State Planes
 state s = let a = s .args in (planes (a .luma .now) (a .u .now) (a .v .now), a .marks .now)
@@ -36,7 +36,7 @@ ok : (c : tie.Else1) → let s = start c in let a = s .args in
 unfolding earlyOf
 ok c = let s = start c in let a = s .args in all-good (data-of s) (length (a .luma .now)) (length (a .u .now)) (length (a .v .now)) (a .marks .now) (asked s) (zero c)
 
-place : (c : tie.Else1) → let a = start c .args in a .y * a .z .w + a .x < a .z .w * a .z .h
+place : (c : tie.Else1) → let a = start c .args in a .y * a .size .w + a .x < a .size .w * a .size .h
 place c = let s = start c in index (data-of s) _ _ _ _ (asked s) (ok c)
 
 -- a refusal before 13
@@ -46,13 +46,13 @@ returns c =
     let s = c .before .before .before .before .before .before .before .before .before .before in
     let e = c .before .refuse .ensures in
     refused-outcome
-    (answer-early (s .args .z .w) (earlyOf (data-of s)) (state s) (asked s) (λ k. c .if1 .taken (e ∙ k)) ∙ sym e) (c .if1 .taken)
+    (answer-early (s .args .size .w) (earlyOf (data-of s)) (state s) (asked s) (λ k. c .if1 .taken (e ∙ k)) ∙ sym e) (c .if1 .taken)
 
 returns-2 : tie.Need-returns-2
 returns-2 c =
     let f = c .before .before in
     let s = start f in
-    refused-outcome (answer-13 (s .args .z .w) (earlyOf (data-of s)) (state s) (asked s) (zero f) (eq-eqb _ 1 (c .if2 .taken))) (omega arith)
+    refused-outcome (answer-13 (s .args .size .w) (earlyOf (data-of s)) (state s) (asked s) (zero f) (eq-eqb _ 1 (c .if2 .taken))) (omega arith)
 
 -- the mark is not set
 abbrev past : tie.Else2 → tie.Else1
@@ -70,7 +70,7 @@ returns-3 c =
     let f = past two in
     let s = start f in
     refused-outcome
-    (answer-14 (s .args .z .w) (earlyOf (data-of s)) (state s) (asked s) (zero f) (ne-eqb _ 1 (two .if2 .left)) (sym (c .before .waits .ensures) ∙ c .if3 .taken))
+    (answer-14 (s .args .size .w) (earlyOf (data-of s)) (state s) (asked s) (zero f) (ne-eqb _ 1 (two .if2 .left)) (sym (c .before .waits .ensures) ∙ c .if3 .taken))
     (omega arith)
 
 -- it waits for none
@@ -92,7 +92,7 @@ returns-4 c =
     let f = past two in
     let s = start f in
     done-outcome
-    (answer-0 (s .args .z .w) (earlyOf (data-of s)) (state s) (asked s) (zero f) (ne-eqb _ 1 (two .if2 .left)) (sym (three .before .waits .ensures) ∙ three .if3 .left))
+    (answer-0 (s .args .size .w) (earlyOf (data-of s)) (state s) (asked s) (zero f) (ne-eqb _ 1 (two .if2 .left)) (sym (three .before .waits .ensures) ∙ three .if3 .left))
     (m .macroblock .ensures ∙ sym (step-index (heldOf (data-of s)) (s .args .x) (s .args .y) (ok f .column) (state s .0)))
     refl
 
@@ -103,8 +103,8 @@ visit-spec =
     (λ c κs. search needs)
     (λ c. search needs)
     returns
-    (λ c. omega (arith, place c, ok c .size .most))
-    (λ c. omega (arith, place c, ok c .size .most))
+    (λ c. omega (arith, place c, ok c .sides .most))
+    (λ c. omega (arith, place c, ok c .sides .most))
     (λ c. omega (arith, place (c .before), ok (c .before) .marks))
     (λ c. search needs)
     returns-2

@@ -28,5 +28,5 @@ pub by-length : (f : Planes → Planes → Bool) → Compares f
 by-length f says alike = differ (says none one .0 (alike none one refl refl refl))
 
 -- nor does it leave V out
-pub without-v : (f : Planes → Planes → Bool) → Compares f → ((p q : Planes) → p .y ≡ q .y → p .u ≡ q .u → f p q ≡ true) → ⊥
+pub without-v : (f : Planes → Planes → Bool) → Compares f → ((p q : Planes) → p .luma ≡ q .luma → p .u ≡ q .u → f p q ≡ true) → ⊥
 without-v f says alike = differ (says none one .0 (alike none one refl refl))

@@ -68,7 +68,7 @@ pub struct Grids<'a> {
 /// The planes of a picture, which filtering changes.
 pub struct Planes<'a> {
     /// 256 bytes a macroblock.
-    pub y: &'a mut [u8],
+    pub luma: &'a mut [u8],
     /// 64 bytes a macroblock.
     pub u: &'a mut [u8],
     pub v: &'a mut [u8],
@@ -132,12 +132,12 @@ mod tests {
     fn visits_wait_for_the_upper_right() {
         for (w, second) in [(2, Answer::NotReady), (1, Answer::Done)] {
             let n = 2 * w;
-            let (mut y, mut u, mut v) = (vec![90; 256 * n], vec![90; 64 * n], vec![90; 64 * n]);
+            let (mut luma, mut u, mut v) = (vec![90; 256 * n], vec![90; 64 * n], vec![90; 64 * n]);
             let (strengths, qps) = (vec![3; 32 * n], vec![40; n]);
             let stored = Stored { strengths: &strengths, qps: &qps, t8s: &[] };
             let mut marks = vec![0; n];
             let mut ask = |x, at| {
-                let planes = Planes { y: &mut y, u: &mut u, v: &mut v };
+                let planes = Planes { luma: &mut luma, u: &mut u, v: &mut v };
                 visit(Size { w, h: 2 }, Place { x, y: at }, Offsets::default(), planes, stored, &mut marks)
             };
             assert_eq!([ask(0, 0), ask(0, 1), ask(w, 0)], [Answer::Done, second, Answer::Place]);
@@ -152,11 +152,11 @@ mod tests {
         let stored = Stored { strengths: &strengths, qps: &[30], t8s: &[0] };
         let (size, o) = (Size { w: 1, h: 1 }, Offsets::default());
         for by_rows in [false, true] {
-            let mut y: Vec<u8> = (0..256).map(|i| if i % 16 < 8 { 60 } else { 70 }).collect();
+            let mut luma: Vec<u8> = (0..256).map(|i| if i % 16 < 8 { 60 } else { 70 }).collect();
             let (mut u, mut v) = (vec![60; 64], vec![60; 64]);
-            let planes = Planes { y: &mut y, u: &mut u, v: &mut v };
+            let planes = Planes { luma: &mut luma, u: &mut u, v: &mut v };
             let answer = if by_rows { rows(size, 0..1, o, planes, stored) } else { frame(size, o, planes, stored) };
-            assert_eq!((answer, &y[244..252]), (Answer::Done, &[60, 60, 60, 63, 68, 70, 70, 70][..]));
+            assert_eq!((answer, &luma[244..252]), (Answer::Done, &[60, 60, 60, 63, 68, 70, 70, 70][..]));
         }
     }
 

@@ -36,19 +36,19 @@ mod c {
         ) -> u32;
         pub fn deblock_frame(
             w: usize, h: usize, a: i32, b: i32, chroma: i32,
-            y: *mut u8, y_len: usize, u: *mut u8, u_len: usize, v: *mut u8, v_len: usize,
+            luma: *mut u8, luma_len: usize, u: *mut u8, u_len: usize, v: *mut u8, v_len: usize,
             strengths: *const u8, strengths_len: usize, qps: *const u8, qps_len: usize,
             t8s: *const u8, t8s_len: usize,
         ) -> u32;
         pub fn deblock_rows(
             w: usize, h: usize, first: usize, last: usize, a: i32, b: i32, chroma: i32,
-            y: *mut u8, y_len: usize, u: *mut u8, u_len: usize, v: *mut u8, v_len: usize,
+            luma: *mut u8, luma_len: usize, u: *mut u8, u_len: usize, v: *mut u8, v_len: usize,
             strengths: *const u8, strengths_len: usize, qps: *const u8, qps_len: usize,
             t8s: *const u8, t8s_len: usize,
         ) -> u32;
         pub fn deblock_visit(
-            w: usize, h: usize, mb_x: usize, mb_y: usize, a: i32, b: i32, chroma: i32,
-            y: *mut u8, y_len: usize, u: *mut u8, u_len: usize, v: *mut u8, v_len: usize,
+            w: usize, h: usize, x: usize, y: usize, a: i32, b: i32, chroma: i32,
+            luma: *mut u8, luma_len: usize, u: *mut u8, u_len: usize, v: *mut u8, v_len: usize,
             strengths: *const u8, strengths_len: usize, qps: *const u8, qps_len: usize,
             t8s: *const u8, t8s_len: usize, marks: *mut u8, marks_len: usize,
         ) -> u32;
@@ -105,7 +105,7 @@ pub fn frame(w: usize, h: usize, [a, b, chroma]: [i32; 3], p: Planes, s: Stored)
     unsafe {
         c::deblock_frame(
             w, h, a, b, chroma,
-            p.y.as_mut_ptr(), p.y.len(), p.u.as_mut_ptr(), p.u.len(), p.v.as_mut_ptr(), p.v.len(),
+            p.luma.as_mut_ptr(), p.luma.len(), p.u.as_mut_ptr(), p.u.len(), p.v.as_mut_ptr(), p.v.len(),
             s.strengths.as_ptr(), s.strengths.len(), s.qps.as_ptr(), s.qps.len(), s.t8s.as_ptr(), s.t8s.len(),
         )
     }
@@ -119,7 +119,7 @@ pub fn rows(
     unsafe {
         c::deblock_rows(
             w, h, first, last, a, b, chroma,
-            p.y.as_mut_ptr(), p.y.len(), p.u.as_mut_ptr(), p.u.len(), p.v.as_mut_ptr(), p.v.len(),
+            p.luma.as_mut_ptr(), p.luma.len(), p.u.as_mut_ptr(), p.u.len(), p.v.as_mut_ptr(), p.v.len(),
             s.strengths.as_ptr(), s.strengths.len(), s.qps.as_ptr(), s.qps.len(), s.t8s.as_ptr(), s.t8s.len(),
         )
     }
@@ -133,7 +133,7 @@ pub fn visit(
     unsafe {
         c::deblock_visit(
             w, h, x, y, a, b, chroma,
-            p.y.as_mut_ptr(), p.y.len(), p.u.as_mut_ptr(), p.u.len(), p.v.as_mut_ptr(), p.v.len(),
+            p.luma.as_mut_ptr(), p.luma.len(), p.u.as_mut_ptr(), p.u.len(), p.v.as_mut_ptr(), p.v.len(),
             s.strengths.as_ptr(), s.strengths.len(), s.qps.as_ptr(), s.qps.len(), s.t8s.as_ptr(), s.t8s.len(),
             marks.as_mut_ptr(), marks.len(),
         )

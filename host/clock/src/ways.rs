@@ -2,7 +2,7 @@
 
 use crate::cpu_time::seconds;
 use crate::picture::{Picture, H, W};
-use binding::{Answer, Offsets, Place, Planes, Size, Stored};
+use deblock::{Answer, Offsets, Place, Planes, Size, Stored};
 
 const SIZE: Size = Size { w: W, h: H };
 
@@ -29,13 +29,13 @@ impl Way {
         match self {
             Way::Original => {
                 let stored = oracle::Stored::new(W, H, strengths, qps, t8s);
-                let [y, u, v] = planes;
+                let [luma, u, v] = planes;
                 let offsets = oracle::Offsets { a: 0, b: 0, chroma: 0 };
-                timed(|| stored.filter_frame(oracle::Planes { y, u, v }, offsets))
+                timed(|| stored.filter_frame(oracle::Planes { luma, u, v }, offsets))
             }
             Way::Whole => {
                 let planes = lent(planes);
-                timed(|| assert_eq!(binding::frame(SIZE, Offsets::default(), planes, stored), Answer::Done))
+                timed(|| assert_eq!(deblock::frame(SIZE, Offsets::default(), planes, stored), Answer::Done))
             }
             Way::Raster => visits(&order, planes, stored),
             Way::Wavefront => {
@@ -50,14 +50,14 @@ fn visits(order: &[Place], planes: &mut [Vec<u8>; 3], stored: Stored) -> f64 {
     let mut marks = vec![0; W * H];
     timed(|| {
         for &at in order {
-            let answer = binding::visit(SIZE, at, Offsets::default(), lent(planes), stored, &mut marks);
+            let answer = deblock::visit(SIZE, at, Offsets::default(), lent(planes), stored, &mut marks);
             assert_eq!(answer, Answer::Done);
         }
     })
 }
 
-fn lent([y, u, v]: &mut [Vec<u8>; 3]) -> Planes<'_> {
-    Planes { y, u, v }
+fn lent([luma, u, v]: &mut [Vec<u8>; 3]) -> Planes<'_> {
+    Planes { luma, u, v }
 }
 
 fn timed(work: impl FnOnce()) -> f64 {

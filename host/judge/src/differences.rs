@@ -139,7 +139,7 @@ pub fn original(q: &Request) -> Seen {
     let stored = (!q.call.is_strengths()).then(|| Stored::new(q.w, q.h, &q.strengths, &q.qps, &q.t8s));
     let [a, b, chroma] = q.offsets;
     let offsets = Offsets { a, b, chroma };
-    let planes = Planes { y: &mut after.luma, u: &mut after.u, v: &mut after.v };
+    let planes = Planes { luma: &mut after.luma, u: &mut after.u, v: &mut after.v };
     let call = AssertUnwindSafe(|| match (q.call, &stored) {
         (Call::Kind, _) => Some(blocks.by_kind(q.x, q.y, q.kind)),
         (Call::Flags, _) => Some(blocks.by_flags(q.x, q.y, q.flat != 0, q.uniform != 0, q.t8 != 0)),

@@ -33,7 +33,7 @@ fn strengths(r: &mut Request) {
 fn filter(r: &mut Request) {
     let stored = Stored::new(r.w, r.h, &r.strengths, &r.qps, &r.t8s);
     let offsets = offsets(r);
-    let planes = Planes { y: &mut r.luma, u: &mut r.u, v: &mut r.v };
+    let planes = Planes { luma: &mut r.luma, u: &mut r.u, v: &mut r.v };
     match r.call {
         Call::Frame => stored.filter_frame(planes, offsets),
         _ => stored.filter_rows(planes, r.first..r.last, offsets),
@@ -46,7 +46,7 @@ fn visit(r: &mut Request) {
     let mut stored = Stored::blank(r.w, r.h, &r.qps, &r.t8s);
     stored.set(at, &r.strengths[32 * at..][..32]);
     let (rows, offsets) = (r.y..r.y + 1, offsets(r));
-    stored.filter_rows(Planes { y: &mut r.luma, u: &mut r.u, v: &mut r.v }, rows, offsets);
+    stored.filter_rows(Planes { luma: &mut r.luma, u: &mut r.u, v: &mut r.v }, rows, offsets);
     r.marks[at] = 1;
 }
 
@@ -60,7 +60,7 @@ pub fn marked_in_raster_order(r: &mut Request, marks: &[u8]) {
         }
     }
     let offsets = offsets(r);
-    stored.filter_frame(Planes { y: &mut r.luma, u: &mut r.u, v: &mut r.v }, offsets);
+    stored.filter_frame(Planes { luma: &mut r.luma, u: &mut r.u, v: &mut r.v }, offsets);
 }
 
 fn offsets(r: &Request) -> Offsets {

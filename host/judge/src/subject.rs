@@ -2,7 +2,7 @@
 
 use crate::fence::{Field, Side};
 use crate::request::{Call, Request};
-use binding::{wire, Grids, Planes, Stored};
+use deblock::{wire, Grids, Planes, Stored};
 use std::cell::{Cell, RefCell};
 
 pub trait Subject {
@@ -46,7 +46,7 @@ impl Subject for Archive {
             Call::Flagless => return wire::strengths(w, h, x, y, r.t8, grids, &mut strengths),
             _ => {}
         }
-        let planes = Planes { y: &mut luma, u: &mut u, v: &mut v };
+        let planes = Planes { luma: &mut luma, u: &mut u, v: &mut v };
         let stored = Stored { strengths: &strengths, qps: &qps, t8s: &t8s };
         match r.call {
             Call::Frame => wire::frame(w, h, r.offsets, planes, stored),

@@ -51,13 +51,13 @@ fn rise(n: usize) -> Vec<u8> {
 }
 
 fn frame(q: u8, t8s: [u8; 2], o: Offsets, s: &[u8]) {
-    let (mut y, mut u, mut v) = (rise(512), rise(128), vec![90; 128]);
+    let (mut luma, mut u, mut v) = (rise(512), rise(128), vec![90; 128]);
     let refused = q > 51;
     if !refused {
-        Stored::new(2, 1, s, &[30, q], &t8s).filter_frame(Planes { y: &mut y, u: &mut u, v: &mut v }, o);
+        Stored::new(2, 1, s, &[30, q], &t8s).filter_frame(Planes { luma: &mut luma, u: &mut u, v: &mut v }, o);
     }
     print!("frame {}:", if refused { 8 } else { 0 });
-    numbers(&y);
+    numbers(&luma);
     numbers(&u);
     numbers(&v);
 }

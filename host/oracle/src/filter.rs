@@ -5,7 +5,7 @@ use core::ops::Range;
 
 /// The three planes of a picture, lent for filtering.
 pub struct Planes<'a> {
-    pub y: &'a mut [u8],
+    pub luma: &'a mut [u8],
     pub u: &'a mut [u8],
     pub v: &'a mut [u8],
 }
@@ -53,18 +53,18 @@ impl Stored {
 
     pub fn filter_frame(&self, p: Planes, o: Offsets) {
         let (w, h) = (self.width, self.height);
-        deblock::filter_frame(p.y, p.u, p.v, w, h, &self.qps, o.chroma, o.a, o.b, &self.info());
+        deblock::filter_frame(p.luma, p.u, p.v, w, h, &self.qps, o.chroma, o.a, o.b, &self.info());
     }
 
     pub fn filter_rows(&self, p: Planes, rows: Range<usize>, o: Offsets) {
         let (w, h) = (self.width, self.height);
-        deblock::filter_frame_rows(p.y, p.u, p.v, w, h, rows, &self.qps, o.chroma, o.a, o.b, &self.info());
+        deblock::filter_frame_rows(p.luma, p.u, p.v, w, h, rows, &self.qps, o.chroma, o.a, o.b, &self.info());
     }
 
     /// The original's second way over rows, for strengths whose maker has left 0 where the 8x8 flag skips.
     pub fn filter_rows_pre(&self, p: Planes, rows: Range<usize>, o: Offsets) {
         let (w, h) = (self.width, self.height);
-        deblock::filter_frame_rows_pre(p.y, p.u, p.v, w, h, rows, &self.qps, o.chroma, o.a, o.b, &self.info());
+        deblock::filter_frame_rows_pre(p.luma, p.u, p.v, w, h, rows, &self.qps, o.chroma, o.a, o.b, &self.info());
     }
 
     fn info(&self) -> BlockInfo<'_> {

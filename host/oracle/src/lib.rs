@@ -72,12 +72,12 @@ mod tests {
     fn lines_of_the_proved_table() {
         let filtered = |left: u8, right: u8, strength: u8| {
             let half = |n: usize| -> Vec<u8> { (0..n * n).map(|i| if i % n < n / 2 { left } else { right }).collect() };
-            let (mut y, mut u, mut v) = (half(16), half(8), half(8));
+            let (mut luma, mut u, mut v) = (half(16), half(8), half(8));
             let mut strengths = [0; 32];
             strengths[8..12].fill(strength); // vertical edge 2: between the halves
             let stored = Stored::new(1, 1, &strengths, &[30], &[]);
-            stored.filter_frame(Planes { y: &mut y, u: &mut u, v: &mut v }, Offsets { a: 0, b: 0, chroma: 1 });
-            (y[4..12].to_vec(), u[2..6].to_vec(), v[58..62].to_vec())
+            stored.filter_frame(Planes { luma: &mut luma, u: &mut u, v: &mut v }, Offsets { a: 0, b: 0, chroma: 1 });
+            (luma[4..12].to_vec(), u[2..6].to_vec(), v[58..62].to_vec())
         };
         assert_eq!(filtered(60, 70, 4).0, [60, 60, 60, 63, 68, 70, 70, 70]);
         assert_eq!(filtered(60, 67, 4).0, [60, 61, 62, 63, 64, 65, 66, 67]);

@@ -4,7 +4,7 @@ use crate::picture::{difference_image, differences, tell, Picture};
 use crate::png;
 use crate::recording::Recording;
 use crate::trouble::{self, Trouble};
-use binding::Size;
+use deblock::Size;
 use std::path::Path;
 
 /// Returns whether the two are equal. `size` is that of raw files, in macroblocks.

@@ -6,7 +6,7 @@ use crate::png;
 use crate::progress::Progress;
 use crate::scene;
 use crate::trouble::{self, Trouble};
-use binding::{Answer, Place};
+use deblock::{Answer, Place};
 use std::path::Path;
 
 const ORDERS: u64 = 3000;
@@ -21,7 +21,7 @@ pub fn run(folder: &Path) -> Result<bool, Trouble> {
     println!("A pipe joint with a crack, {w} by {h} macroblocks.");
 
     let mut right = before.clone();
-    let answer = binding::frame(before.size, settings.offsets, right.planes(), settings.stored());
+    let answer = deblock::frame(before.size, settings.offsets, right.planes(), settings.stored());
     println!("Whole picture: {answer}; the filter changed {} samples.", differences(&before, &right).len());
 
     let equal = arrivals(&before, &settings, &right);
@@ -33,7 +33,8 @@ pub fn run(folder: &Path) -> Result<bool, Trouble> {
 
     std::fs::create_dir_all(folder).map_err(|e| Trouble::in_file(folder, e))?;
     let difference = difference_image(&right, &old, TIMES);
-    let pictures = [("before", &before.y), ("right", &right.y), ("old-rule", &old.y), ("difference", &difference)];
+    let pictures =
+        [("before", &before.luma), ("right", &right.luma), ("old-rule", &old.luma), ("difference", &difference)];
     for (name, samples) in pictures {
         let image = png::grey(ZOOM * 16 * w, ZOOM * 16 * h, &png::enlarge(16 * w, samples, ZOOM));
         trouble::write(&folder.join(format!("{name}.png")), &image)?;
@@ -73,8 +74,8 @@ fn old_rule(before: &Picture, settings: &Settings, order: &Order) -> Picture {
         let own = 32 * (y * size.w + x);
         let mut alone = vec![0; settings.strengths.len()];
         alone[own..own + 32].copy_from_slice(&settings.strengths[own..own + 32]);
-        let stored = binding::Stored { strengths: &alone, ..settings.stored() };
-        let answer = binding::rows(size, y..y + 1, settings.offsets, picture.planes(), stored);
+        let stored = deblock::Stored { strengths: &alone, ..settings.stored() };
+        let answer = deblock::rows(size, y..y + 1, settings.offsets, picture.planes(), stored);
         assert_eq!(answer, Answer::Done, "the scene is in the domain");
     }
     picture

@@ -11,7 +11,7 @@ mod replay;
 mod scene;
 mod trouble;
 
-use binding::Size;
+use deblock::Size;
 use std::path::{Path, PathBuf};
 use std::process::ExitCode;
 use trouble::Trouble;

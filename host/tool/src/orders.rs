@@ -2,7 +2,7 @@
 
 use crate::picture::{Picture, Settings};
 use crate::trouble::{self, Trouble};
-use binding::{Answer, Place, Size};
+use deblock::{Answer, Place, Size};
 use inputs::Rng;
 use std::collections::BTreeMap;
 use std::path::Path;
@@ -92,7 +92,7 @@ pub fn replay(before: &Picture, settings: &Settings, order: &[Place], waits: boo
 impl Replay {
     fn visit(&mut self, at: Place, s: &Settings) -> Answer {
         let size = self.picture.size;
-        let answer = binding::visit(size, at, s.offsets, self.picture.planes(), s.stored(), &mut self.marks);
+        let answer = deblock::visit(size, at, s.offsets, self.picture.planes(), s.stored(), &mut self.marks);
         *self.answers.entry(answer).or_default() += 1;
         answer
     }

@@ -1,11 +1,11 @@
 //! Pictures: three planes, what is filtered with them, and how two of them differ.
 
-use binding::{Offsets, Planes, Size, Stored};
+use deblock::{Offsets, Planes, Size, Stored};
 
 #[derive(Clone, PartialEq, Eq)]
 pub struct Picture {
     pub size: Size,
-    pub y: Vec<u8>,
+    pub luma: Vec<u8>,
     pub u: Vec<u8>,
     pub v: Vec<u8>,
 }
@@ -31,13 +31,13 @@ impl Picture {
         if bytes.len() != 384 * n {
             return None;
         }
-        let (y, chroma) = bytes.split_at(256 * n);
+        let (luma, chroma) = bytes.split_at(256 * n);
         let (u, v) = chroma.split_at(64 * n);
-        Some(Picture { size, y: y.to_vec(), u: u.to_vec(), v: v.to_vec() })
+        Some(Picture { size, luma: luma.to_vec(), u: u.to_vec(), v: v.to_vec() })
     }
 
     pub fn planes(&mut self) -> Planes<'_> {
-        Planes { y: &mut self.y, u: &mut self.u, v: &mut self.v }
+        Planes { luma: &mut self.luma, u: &mut self.u, v: &mut self.v }
     }
 
     pub fn width(&self) -> usize {
@@ -63,7 +63,7 @@ pub struct Sample {
 
 /// All samples in which two pictures of one size differ.
 pub fn differences(a: &Picture, b: &Picture) -> Vec<Sample> {
-    let planes = [('Y', &a.y, &b.y, 16), ('U', &a.u, &b.u, 8), ('V', &a.v, &b.v, 8)];
+    let planes = [('Y', &a.luma, &b.luma, 16), ('U', &a.u, &b.u, 8), ('V', &a.v, &b.v, 8)];
     let mut found = Vec::new();
     for (plane, here, there, side) in planes {
         let width = side * a.size.w;
@@ -95,5 +95,5 @@ pub fn tell(found: &[Sample]) {
 /// The luma difference of two pictures, grey where equal, made large enough to see.
 pub fn difference_image(a: &Picture, b: &Picture, times: i32) -> Vec<u8> {
     let amplified = |(&p, &q): (&u8, &u8)| (128 + times * (i32::from(q) - i32::from(p))).clamp(0, 255) as u8;
-    a.y.iter().zip(&b.y).map(amplified).collect()
+    a.luma.iter().zip(&b.luma).map(amplified).collect()
 }

@@ -2,7 +2,7 @@
 
 use crate::picture::{Picture, Settings};
 use crate::trouble::{self, Trouble};
-use binding::{Grids, Offsets, Size};
+use deblock::{Grids, Offsets, Size};
 use std::path::Path;
 
 pub struct Recording {
@@ -170,7 +170,7 @@ mod tests {
         let r = parse(&good()).expect("a good file");
         assert_eq!(r.settings.offsets, Offsets { a: 2, b: -2, chroma: -1 });
         assert_eq!((r.ref0[15], r.mv0[31], r.ref1.len()), (-1, -255, 0));
-        assert_eq!(r.before.y.len(), 256);
+        assert_eq!(r.before.luma.len(), 256);
     }
 
     #[test]

@@ -6,7 +6,7 @@ use crate::picture::{differences, tell};
 use crate::progress::Progress;
 use crate::recording::Recording;
 use crate::trouble::Trouble;
-use binding::{strengths, Answer, Place};
+use deblock::{strengths, Answer, Place};
 use std::path::Path;
 
 /// Random orders that are tried where none is given.

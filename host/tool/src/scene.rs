@@ -1,7 +1,7 @@
 //! A made picture of a pipe joint with a crack, as blocky as a coarsely coded picture is.
 
 use crate::picture::{Picture, Settings};
-use binding::{strengths, Answer, Grids, Offsets, Place, Size};
+use deblock::{strengths, Answer, Grids, Offsets, Place, Size};
 use inputs::Rng;
 
 pub const SIZE: Size = Size { w: 10, h: 6 };
@@ -10,7 +10,7 @@ pub const SIZE: Size = Size { w: 10, h: 6 };
 pub fn joint() -> (Picture, Settings) {
     let (w, h) = (16 * SIZE.w, 16 * SIZE.h);
     let sharp = photograph(w, h);
-    let (y, detail) = code(w, &sharp, 6, 9);
+    let (luma, detail) = code(w, &sharp, 6, 9);
     // wet concrete: a little blue below, a little brown at the joint
     let tint = |level: f64, part: f64| -> Vec<f64> {
         let at = |i: usize| sharp[i / (w / 2) * 2 * w + i % (w / 2) * 2];
@@ -19,7 +19,7 @@ pub fn joint() -> (Picture, Settings) {
     let (u, _) = code(w / 2, &tint(124.0, -0.12), 3, 40);
     let (v, _) = code(w / 2, &tint(131.0, 0.1), 3, 40);
     let settings = settings(&detail);
-    (Picture { size: SIZE, y, u, v }, settings)
+    (Picture { size: SIZE, luma, u, v }, settings)
 }
 
 /// The light on a round wall, the groove of the joint, the crack that leaves it, and the grain of the

@@ -4,7 +4,7 @@
 //! that is not the paint tells how deep it went; a thread that calls nothing tells what of that is the
 //! thread's own. Twice, with two paints, since a byte that the call wrote may look like one.
 
-use binding::{Answer, Grids, Kind, Offsets, Place, Planes, Size, Stored};
+use deblock::{Answer, Grids, Kind, Offsets, Place, Planes, Size, Stored};
 use std::ffi::c_void;
 use std::mem::MaybeUninit;
 
@@ -76,9 +76,9 @@ impl Picture {
     }
 
     fn lent(&mut self) -> (Planes<'_>, Stored<'_>, &mut [u8]) {
-        let [y, u, v] = &mut self.planes;
+        let [luma, u, v] = &mut self.planes;
         let stored = Stored { strengths: &self.strengths, qps: &QPS, t8s: &[] };
-        (Planes { y, u, v }, stored, &mut self.marks)
+        (Planes { luma, u, v }, stored, &mut self.marks)
     }
 }
 
@@ -95,13 +95,13 @@ fn filtering(show: &dyn Fn(&str, usize)) {
     show("whole picture", {
         deepest(|| {
             let (planes, stored, _) = p.lent();
-            assert_eq!(binding::frame(SIZE, Offsets::default(), planes, stored), Answer::Done);
+            assert_eq!(deblock::frame(SIZE, Offsets::default(), planes, stored), Answer::Done);
         })
     });
     show("rows", {
         deepest(|| {
             let (planes, stored, _) = p.lent();
-            assert_eq!(binding::rows(SIZE, 0..2, Offsets::default(), planes, stored), Answer::Done);
+            assert_eq!(deblock::rows(SIZE, 0..2, Offsets::default(), planes, stored), Answer::Done);
         })
     });
     show("visit", {
@@ -109,15 +109,15 @@ fn filtering(show: &dyn Fn(&str, usize)) {
             let (planes, stored, marks) = p.lent();
             marks.copy_from_slice(&[1, 1, 1, 0]);
             let at = Place { x: 1, y: 1 };
-            assert_eq!(binding::visit(SIZE, at, Offsets::default(), planes, stored, marks), Answer::Done);
+            assert_eq!(deblock::visit(SIZE, at, Offsets::default(), planes, stored, marks), Answer::Done);
         })
     });
     let strengths = p.strengths.clone();
     let stored = oracle::Stored::new(SIZE.w, SIZE.h, &strengths, &QPS, &[]);
     show("the Rust's whole picture", {
         deepest(|| {
-            let [y, u, v] = &mut p.planes;
-            stored.filter_frame(oracle::Planes { y, u, v }, oracle::Offsets { a: 0, b: 0, chroma: 0 });
+            let [luma, u, v] = &mut p.planes;
+            stored.filter_frame(oracle::Planes { luma, u, v }, oracle::Offsets { a: 0, b: 0, chroma: 0 });
         })
     });
 }
@@ -128,13 +128,13 @@ fn strengths(show: &dyn Fn(&str, usize)) {
     let grids = Grids { inter: &inter, nnz: &nnz, ref0: &ref0, mv0: &mv0, ref1: &ref1, mv1: &mv0 };
     let (at, mut out) = (Place { x: 1, y: 1 }, vec![0; 128]);
     show("strengths by kind", {
-        deepest(|| assert_eq!(binding::strengths_by_kind(SIZE, at, Kind::Inter, grids, &mut out), Answer::Done))
+        deepest(|| assert_eq!(deblock::strengths_by_kind(SIZE, at, Kind::Inter, grids, &mut out), Answer::Done))
     });
     show("strengths by flags", {
         deepest(|| {
             let flags = (false, false, false);
-            assert_eq!(binding::strengths_by_flags(SIZE, at, flags, grids, &mut out), Answer::Done)
+            assert_eq!(deblock::strengths_by_flags(SIZE, at, flags, grids, &mut out), Answer::Done)
         })
     });
-    show("strengths", deepest(|| assert_eq!(binding::strengths(SIZE, at, false, grids, &mut out), Answer::Done)));
+    show("strengths", deepest(|| assert_eq!(deblock::strengths(SIZE, at, false, grids, &mut out), Answer::Done)));
 }

@@ -251,7 +251,7 @@ fn pre_ignores_the_flag(archive: &Archive) -> bool {
         (q.strengths, q.t8s) = (edge(1, 3).to_vec().into(), vec![t8].into());
         let mut pre = q.clone();
         let stored = Stored::new(1, 1, &q.strengths, &q.qps, &q.t8s);
-        let planes = Planes { y: &mut pre.luma, u: &mut pre.u, v: &mut pre.v };
+        let planes = Planes { luma: &mut pre.luma, u: &mut pre.u, v: &mut pre.v };
         stored.filter_rows_pre(planes, 0..1, Offsets { a: 0, b: 0, chroma: 0 });
         let plain = both(archive, &q)?;
         (q.call, q.last) = (Call::Rows, 1);

@@ -13,6 +13,7 @@ use Rattle.laws.specs.Loop.{upTo}
 use Rattle.laws.specs.Places.{Plane, lineAt}
 use Rattle.laws.proofs.Bools.{or-true}
 use Rattle.laws.proofs.Loop.{upTo-same, upTo-idle}
+use Rattle.lines.specs.Depth.{Depth}
 use Rattle.lines.specs.Planes.{onLine, onShort, lumaAt, chromaAt}
 use Rattle.batches.specs.Lines.{strengthAt, lumaWith, chromaWith, longLines, shortLines, Straight, upper, lower, longAt, side, sideStrength, shortAt}
 use Rattle.batches.specs.Lanes.{none, still}
@@ -27,60 +28,60 @@ use Rattle.batches.proofs.Loads.{long-is, pair-u, pair-v}
 why-still : (s : Four) (l : Thresholds) → still s l ≡ true → (n k : ℕ) → (strengthAt n s k ≡ 0) ⊎ (l .alpha ≡ 0)
 why-still s l e n k = ⊎-elim (λ z. inl (zeros s z n k)) (λ z. inr (eqb-true (l .alpha) 0 z)) (or-true (none s) (eqb (l .alpha) 0) e)
 
-module _ (s : Four) (l : Thresholds) (at along step : ℕ) (xs : Plane) where
-  pub long-still : still s l ≡ true → longLines s l at along step xs ≡ xs
+module _ (d : Depth) (s : Four) (l : Thresholds) (at along step : ℕ) (xs : Plane) where
+  pub long-still : still s l ≡ true → longLines d s l at along step xs ≡ xs
   unfolding longLines lumaAt long
-  long-still e = upTo-idle 16 _ xs (λ k u h. stays long l (at + k * along) step u (strengthAt 4 s k) (why-still s l e 4 k))
+  long-still e = upTo-idle 16 _ xs (λ k u h. stays (long d) l (at + k * along) step u (strengthAt 4 s k) (why-still s l e 4 k))
 
-  pub short-still : still s l ≡ true → shortLines s l at along step xs ≡ xs
+  pub short-still : still s l ≡ true → shortLines d s l at along step xs ≡ xs
   unfolding shortLines chromaAt short
-  short-still e = upTo-idle 8 _ xs (λ k u h. stays short l (at + k * along) step u (strengthAt 2 s k) (why-still s l e 2 k))
+  short-still e = upTo-idle 8 _ xs (λ k u h. stays (short d) l (at + k * along) step u (strengthAt 2 s k) (why-still s l e 2 k))
 
   -- ---- a luma edge
-  pub long-edge : Straight 16 along step → at + 15 * along + 7 * step < length xs → given 0 16 at along step (upTo 16 (longAt s l) (taken at along step xs)) xs ≡ longLines s l at along step xs
+  pub long-edge : Straight 16 along step → at + 15 * along + 7 * step < length xs → given 0 16 at along step (upTo 16 (longAt d s l) (taken at along step xs)) xs ≡ longLines d s l at along step xs
   unfolding longLines lumaAt
   long-edge w h =
-      long-is at along step xs (λ k. onLine (lumaWith l (strengthAt 4 s k))) w h
-      ∙ upTo-same 16 _ _ xs (λ k u b. ap (λ (n : ℕ). lineAt 6 (onLine (lumaWith l (strengthAt 4 s n))) (at + k * along) step u) (zero-add k))
+      long-is at along step xs (λ k. onLine (lumaWith d l (strengthAt 4 s k))) w h
+      ∙ upTo-same 16 _ _ xs (λ k u b. ap (λ (n : ℕ). lineAt 6 (onLine (lumaWith d l (strengthAt 4 s n))) (at + k * along) step u) (zero-add k))
 
 -- ---- two chroma edges: the first eight lines of the block are U's, the others V's
-module _ (s : Four) (l m : Thresholds) (at along step : ℕ) (xs : Plane) where
-  u-lines : upTo 8 (λ k. lineAt 2 (onShort (chromaWith (side l m (0 + k)) (sideStrength s (0 + k)))) (at + k * along) step) xs ≡ shortLines s l at along step xs
+module _ (d : Depth) (s : Four) (l m : Thresholds) (at along step : ℕ) (xs : Plane) where
+  u-lines : upTo 8 (λ k. lineAt 2 (onShort (chromaWith d (side l m (0 + k)) (sideStrength s (0 + k)))) (at + k * along) step) xs ≡ shortLines d s l at along step xs
   unfolding shortLines chromaAt
-  u-lines = upTo-same 8 _ _ xs (λ k u h. λ i. lineAt 2 (onShort (chromaWith (cond (lt-ltb (0 + k) 8 (omega arith) i) l m) (strengthAt 2 s (own k h i)))) (at + k * along) step u)
+  u-lines = upTo-same 8 _ _ xs (λ k u h. λ i. lineAt 2 (onShort (chromaWith d (cond (lt-ltb (0 + k) 8 (omega arith) i) l m) (strengthAt 2 s (own k h i)))) (at + k * along) step u)
     where
       own : (k : ℕ) → k < 8 → (0 + k) % 8 ≡ k
       own k h = omega arith
 
-  v-lines : upTo 8 (λ k. lineAt 2 (onShort (chromaWith (side l m (8 + k)) (sideStrength s (8 + k)))) (at + k * along) step) xs ≡ shortLines s m at along step xs
+  v-lines : upTo 8 (λ k. lineAt 2 (onShort (chromaWith d (side l m (8 + k)) (sideStrength s (8 + k)))) (at + k * along) step) xs ≡ shortLines d s m at along step xs
   unfolding shortLines chromaAt
-  v-lines = upTo-same 8 _ _ xs (λ k u h. λ i. lineAt 2 (onShort (chromaWith (cond (le-ltb (8 + k) 8 (omega arith) i) l m) (strengthAt 2 s (own k h i)))) (at + k * along) step u)
+  v-lines = upTo-same 8 _ _ xs (λ k u h. λ i. lineAt 2 (onShort (chromaWith d (cond (le-ltb (8 + k) 8 (omega arith) i) l m) (strengthAt 2 s (own k h i)))) (at + k * along) step u)
     where
       own : (k : ℕ) → k < 8 → (8 + k) % 8 ≡ k
       own k h = omega arith
 
 -- s, l and m are the first edge's strengths and thresholds, r, n and o the second's
-module _ (s r : Four) (l m n o : Thresholds) (at along step : ℕ) (us vs : Plane) (w : Straight 8 along step) where
+module _ (d : Depth) (s r : Four) (l m n o : Thresholds) (at along step : ℕ) (us vs : Plane) (w : Straight 8 along step) where
   abbrev block : Plane
-  block = upTo 16 (shortAt lower r n o) (upTo 16 (shortAt upper s l m) (takenBoth at along step us vs))
+  block = upTo 16 (shortAt d lower r n o) (upTo 16 (shortAt d upper s l m) (takenBoth at along step us vs))
 
   pub edges-u : at + 7 * along + 7 * step < length us
-      → given 0 8 at along step block us ≡ shortLines r n (at + 4 * step) along step (shortLines s l at along step us)
+      → given 0 8 at along step block us ≡ shortLines d r n (at + 4 * step) along step (shortLines d s l at along step us)
   unfolding chromaAt
   edges-u h =
-      pair-u at along step us vs (λ k. onShort (chromaWith (side l m k) (sideStrength s k))) (λ k. onShort (chromaWith (side n o k) (sideStrength r k))) w h
-      ∙ u-lines r n o (at + 4 * step) along step _
-      ∙ ap (shortLines r n (at + 4 * step) along step) (u-lines s l m at along step us)
+      pair-u at along step us vs (λ k. onShort (chromaWith d (side l m k) (sideStrength s k))) (λ k. onShort (chromaWith d (side n o k) (sideStrength r k))) w h
+      ∙ u-lines d r n o (at + 4 * step) along step _
+      ∙ ap (shortLines d r n (at + 4 * step) along step) (u-lines d s l m at along step us)
 
   pub edges-v : at + 7 * along + 7 * step < length vs
-      → given 8 8 at along step block vs ≡ shortLines r o (at + 4 * step) along step (shortLines s m at along step vs)
+      → given 8 8 at along step block vs ≡ shortLines d r o (at + 4 * step) along step (shortLines d s m at along step vs)
   unfolding chromaAt
   edges-v h =
-      pair-v at along step us vs (λ k. onShort (chromaWith (side l m k) (sideStrength s k))) (λ k. onShort (chromaWith (side n o k) (sideStrength r k))) w h
-      ∙ v-lines r n o (at + 4 * step) along step _
-      ∙ ap (shortLines r o (at + 4 * step) along step) (v-lines s l m at along step vs)
+      pair-v at along step us vs (λ k. onShort (chromaWith d (side l m k) (sideStrength s k))) (λ k. onShort (chromaWith d (side n o k) (sideStrength r k))) w h
+      ∙ v-lines d r n o (at + 4 * step) along step _
+      ∙ ap (shortLines d r o (at + 4 * step) along step) (v-lines d s l m at along step vs)
 
 -- s and l are the first edge's, r and m the second's
-pub pair-still : (s r : Four) (l m : Thresholds) (at along step : ℕ) (xs : Plane) → still s l ≡ true → still r m ≡ true
-    → shortLines r m (at + 4 * step) along step (shortLines s l at along step xs) ≡ xs
-pair-still s r l m at along step xs e f = short-still r m (at + 4 * step) along step _ f ∙ short-still s l at along step xs e
+pub pair-still : (d : Depth) (s r : Four) (l m : Thresholds) (at along step : ℕ) (xs : Plane) → still s l ≡ true → still r m ≡ true
+    → shortLines d r m (at + 4 * step) along step (shortLines d s l at along step xs) ≡ xs
+pair-still d s r l m at along step xs e f = short-still d r m (at + 4 * step) along step _ f ∙ short-still d s l at along step xs e

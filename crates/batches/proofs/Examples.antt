@@ -6,6 +6,7 @@ use Prim.Native.Nat.{ℕ}
 use Rattle.laws.specs.Clip.{clip3, clip1}
 use Rattle.laws.specs.Loop.{upTo}
 use Rattle.laws.specs.Places.{Plane}
+use Rattle.lines.specs.Depth.{eight}
 use Rattle.lines.specs.Filter.{deltaOf}
 use Rattle.lines.specs.Chroma.{chromaNormal, normalShort, chromaLine}
 use Rattle.lines.specs.Planes.{chromaAt}
@@ -61,6 +62,6 @@ one = record { a = 1; b = 0; c = 0; d = 0 }
 abbrev pub two : Four
 two = record { a = 2; b = 0; c = 0; d = 0 }
 
-both-edges : shortLines two thirty 4 8 1 (shortLines one thirty 0 8 1 steps) ≡ 60 ∷ 62 ∷ 68 ∷ 70 ∷ 70 ∷ 72 ∷ 78 ∷ 80 ∷ []
+both-edges : shortLines eight two thirty 4 8 1 (shortLines eight one thirty 0 8 1 steps) ≡ 60 ∷ 62 ∷ 68 ∷ 70 ∷ 70 ∷ 72 ∷ 78 ∷ 80 ∷ []
 unfolding shortLines upTo chromaAt chromaLine normalShort chromaNormal deltaOf clip3 clip1 tcBy
 both-edges = refl

@@ -6,6 +6,7 @@ use Prim.Native.Nat.{ℕ, _%_, _<_}
 use lib.ListN.{getD}
 use Rattle.laws.specs.Loop.{upTo}
 use Rattle.laws.specs.Places.{Plane}
+use Rattle.lines.specs.Depth.{Depth}
 use Rattle.lines.specs.Luma.{normalLine, strongLine}
 use Rattle.lines.specs.Chroma.{normalShort, strongShort}
 use Rattle.lines.specs.Planes.{lumaAt, chromaAt}
@@ -19,30 +20,30 @@ use Rattle.batches.proofs.Shapes.{long, short}
 use Rattle.batches.proofs.Passes.{pass-idle, weak-pass, strong-pass, both-passes}
 
 -- ---- luma: al and tc are four each of the rows ra and rt
-module _ (s : Four) (l : Thresholds) where
+module _ (d : Depth) (s : Four) (l : Thresholds) where
   four : {r x : List ℕ} (R : Thresholds → List ℕ) → r ≡ R l → x ≡ fourEach r s → (k : ℕ) → k < 16 → getD x k 0 ≡ ofKind (R l) (strengthAt 4 s k)
   four R e f k h = ap (λ (y : List ℕ). getD y k 0) (f ∙ ap (λ (y : List ℕ). fourEach y s) e) ∙ fourEach-at (R l) s k h
 
   pub long-weak : {ra rt al tc : List ℕ} → ra ≡ weakRow l → al ≡ fourEach ra s → rt ≡ tcRow l → tc ≡ fourEach rt s → (t : Plane)
-      → upTo 16 (λ k. lumaAt (normalLine 255 (getD al k 0) (l .beta) (getD tc k 0)) k 16) t ≡ upTo 16 (only isWeak (strengthAt 4 s) (longAt s l)) t
+      → upTo 16 (λ k. lumaAt (normalLine d (getD al k 0) (l .beta) (getD tc k 0)) k 16) t ≡ upTo 16 (only isWeak (strengthAt 4 s) (longAt d s l)) t
   unfolding lumaAt long
-  long-weak a b c d = weak-pass long upper (strengthAt 4 s) (λ k. l) _ _ _ (four weakRow a b) (λ k h. refl) (four tcRow c d)
+  long-weak a b c e = weak-pass (long d) upper (strengthAt 4 s) (λ k. l) _ _ _ (four weakRow a b) (λ k h. refl) (four tcRow c e)
 
   pub long-strong : {ra al : List ℕ} → ra ≡ strongRow l → al ≡ fourEach ra s → (t : Plane)
-      → upTo 16 (λ k. lumaAt (strongLine (getD al k 0) (l .beta)) k 16) t ≡ upTo 16 (only isStrong (strengthAt 4 s) (longAt s l)) t
+      → upTo 16 (λ k. lumaAt (strongLine (getD al k 0) (l .beta)) k 16) t ≡ upTo 16 (only isStrong (strengthAt 4 s) (longAt d s l)) t
   unfolding lumaAt long
-  long-strong a b = strong-pass long upper (strengthAt 4 s) (λ k. l) _ _ (four strongRow a b) (λ k h. refl)
+  long-strong a b = strong-pass (long d) upper (strengthAt 4 s) (λ k. l) _ _ (four strongRow a b) (λ k h. refl)
 
   -- a pass that has none of them
-  pub long-idle : (on : ℕ → Bool) → on 0 ≡ false → any on s ≡ false → (t : Plane) → upTo 16 (only on (strengthAt 4 s) (longAt s l)) t ≡ t
-  long-idle on z e t = pass-idle on (strengthAt 4 s) (longAt s l) t (no-one on s z e 4)
+  pub long-idle : (on : ℕ → Bool) → on 0 ≡ false → any on s ≡ false → (t : Plane) → upTo 16 (only on (strengthAt 4 s) (longAt d s l)) t ≡ t
+  long-idle on z e t = pass-idle on (strengthAt 4 s) (longAt d s l) t (no-one on s z e 4)
 
-  pub long-both : (t : Plane) → upTo 16 (only isStrong (strengthAt 4 s) (longAt s l)) (upTo 16 (only isWeak (strengthAt 4 s) (longAt s l)) t) ≡ upTo 16 (longAt s l) t
+  pub long-both : (t : Plane) → upTo 16 (only isStrong (strengthAt 4 s) (longAt d s l)) (upTo 16 (only isWeak (strengthAt 4 s) (longAt d s l)) t) ≡ upTo 16 (longAt d s l) t
   unfolding lumaAt long
-  long-both = both-passes long upper (strengthAt 4 s) (λ k. l) 0 long-columns
+  long-both = both-passes (long d) upper (strengthAt 4 s) (λ k. l) 0 long-columns
 
 -- ---- chroma: two each of U's rows and V's, and eight betas of each
-module _ (s : Four) (l m : Thresholds) where
+module _ (d : Depth) (s : Four) (l m : Thresholds) where
   two : {p q x : List ℕ} (R : Thresholds → List ℕ) → p ≡ R l → q ≡ R m → x ≡ twoEach p q s → (k : ℕ) → k < 16 → getD x k 0 ≡ ofKind (R (side l m k)) (sideStrength s k)
   two R e f g k h = ap (λ (y : List ℕ). getD y k 0) (g ∙ (λ i. twoEach (e i) (f i) s)) ∙ twoEach-at R l m s k h
 
@@ -52,19 +53,19 @@ module _ (s : Four) (l m : Thresholds) where
   module _ (place : ℕ → ℕ) where
     pub short-weak : {pa qa al pt qt tc be : List ℕ} → pa ≡ weakRow l → qa ≡ weakRow m → al ≡ twoEach pa qa s → pt ≡ tcRow l → qt ≡ tcRow m → tc ≡ twoEach pt qt s
         → be ≡ eightEach (l .beta) (m .beta) → (t : Plane)
-        → upTo 16 (λ k. chromaAt (normalShort 255 (getD al k 0) (getD be k 0) (getD tc k 0)) (place k) 16) t ≡ upTo 16 (only isWeak (sideStrength s) (shortAt place s l m)) t
+        → upTo 16 (λ k. chromaAt (normalShort d (getD al k 0) (getD be k 0) (getD tc k 0)) (place k) 16) t ≡ upTo 16 (only isWeak (sideStrength s) (shortAt d place s l m)) t
     unfolding chromaAt short
-    short-weak a b c d e f g = weak-pass short place (sideStrength s) (side l m) _ _ _ (two weakRow a b c) (eight g) (two tcRow d e f)
+    short-weak a b c e f g h = weak-pass (short d) place (sideStrength s) (side l m) _ _ _ (two weakRow a b c) (eight h) (two tcRow e f g)
 
     pub short-strong : {pa qa al be : List ℕ} → pa ≡ strongRow l → qa ≡ strongRow m → al ≡ twoEach pa qa s → be ≡ eightEach (l .beta) (m .beta) → (t : Plane)
-        → upTo 16 (λ k. chromaAt (strongShort (getD al k 0) (getD be k 0)) (place k) 16) t ≡ upTo 16 (only isStrong (sideStrength s) (shortAt place s l m)) t
+        → upTo 16 (λ k. chromaAt (strongShort (getD al k 0) (getD be k 0)) (place k) 16) t ≡ upTo 16 (only isStrong (sideStrength s) (shortAt d place s l m)) t
     unfolding chromaAt short
-    short-strong a b c d = strong-pass short place (sideStrength s) (side l m) _ _ (two strongRow a b c) (eight d)
+    short-strong a b c e = strong-pass (short d) place (sideStrength s) (side l m) _ _ (two strongRow a b c) (eight e)
 
-    pub short-idle : (on : ℕ → Bool) → on 0 ≡ false → any on s ≡ false → (t : Plane) → upTo 16 (only on (sideStrength s) (shortAt place s l m)) t ≡ t
-    short-idle on z e t = pass-idle on (sideStrength s) (shortAt place s l m) t (λ k. no-one on s z e 2 (k % 8))
+    pub short-idle : (on : ℕ → Bool) → on 0 ≡ false → any on s ≡ false → (t : Plane) → upTo 16 (only on (sideStrength s) (shortAt d place s l m)) t ≡ t
+    short-idle on z e t = pass-idle on (sideStrength s) (shortAt d place s l m) t (λ k. no-one on s z e 2 (k % 8))
 
     pub short-both : (r : ℕ) → Columns place r 2 → (t : Plane)
-        → upTo 16 (only isStrong (sideStrength s) (shortAt place s l m)) (upTo 16 (only isWeak (sideStrength s) (shortAt place s l m)) t) ≡ upTo 16 (shortAt place s l m) t
+        → upTo 16 (only isStrong (sideStrength s) (shortAt d place s l m)) (upTo 16 (only isWeak (sideStrength s) (shortAt d place s l m)) t) ≡ upTo 16 (shortAt d place s l m) t
     unfolding chromaAt short
-    short-both = both-passes short place (sideStrength s) (side l m)
+    short-both = both-passes (short d) place (sideStrength s) (side l m)

@@ -8,6 +8,7 @@ use lib.ListN.{getD, replicate}
 use Rattle.laws.specs.Clip.{clip3, clip1}
 use Rattle.laws.specs.Loop.{upTo}
 use Rattle.laws.specs.Places.{Plane}
+use Rattle.lines.specs.Depth.{eight}
 use Rattle.lines.specs.Filter.{deltaOf}
 use Rattle.lines.specs.Luma.{Line, line, nudgeOf, innerOf, lumaNormal, strongSide, lumaStrong, normalLine, strongLine, lumaLine}
 use Rattle.lines.specs.Chroma.{chromaNormal, normalShort, chromaLine}
@@ -26,12 +27,12 @@ abbrev again : Line → Six → Line
 again l r = line (l .p3) (r .p2) (r .p1) (r .p0) (r .q0) (r .q1) (r .q2) (l .q3)
 
 -- the pass of strengths 1 to 3 lends alpha to lines of strength 4 too: p0 becomes 64, rightly 63 (P4)
-pub alpha-for-strong : strongLine 25 8 (again step (normalLine 255 25 8 0 step)) .p0 ≡ lumaLine 255 4 25 8 0 step .p0 → ⊥
+pub alpha-for-strong : strongLine 25 8 (again step (normalLine eight 25 8 0 step)) .p0 ≡ lumaLine eight 4 25 8 0 step .p0 → ⊥
 unfolding deltaOf nudgeOf innerOf lumaNormal strongSide lumaStrong normalLine strongLine lumaLine clip3 clip1
 alpha-for-strong e = subst (λ (n : ℕ). T (eqb n 64)) e tt
 
 -- the second chroma edge three samples after the first: q0 of the second stays 80, rightly 78
-pub near-edge : shortLines two thirty 3 8 1 (shortLines one thirty 0 8 1 steps) ≡ shortLines two thirty 4 8 1 (shortLines one thirty 0 8 1 steps) → ⊥
+pub near-edge : shortLines eight two thirty 3 8 1 (shortLines eight one thirty 0 8 1 steps) ≡ shortLines eight two thirty 4 8 1 (shortLines eight one thirty 0 8 1 steps) → ⊥
 unfolding shortLines upTo chromaAt chromaLine normalShort chromaNormal deltaOf clip3 clip1 tcBy
 near-edge e = subst (λ (n : ℕ). T (eqb n 80)) (ap (λ (xs : Plane). getD xs 6 0) e) tt
 
@@ -40,7 +41,7 @@ near-edge e = subst (λ (n : ℕ). T (eqb n 80)) (ap (λ (xs : Plane). getD xs 6
 abbrev rows : Plane
 rows = replicate 32 60 ++ replicate 32 70
 
-pub v-by-u : shortAt upper one thirty thirty 8 rows ≡ shortAt upper one thirty shut 8 rows → ⊥
+pub v-by-u : shortAt eight upper one thirty thirty 8 rows ≡ shortAt eight upper one thirty shut 8 rows → ⊥
 unfolding upTo chromaAt chromaLine normalShort chromaNormal deltaOf clip3 clip1 tcBy
 v-by-u e = subst (λ (n : ℕ). T (eqb n 62)) (ap (λ (xs : Plane). getD xs 24 0) e) tt
 

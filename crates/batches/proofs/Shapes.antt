@@ -11,6 +11,7 @@ use lib.Dec.{ltb}
 use lib.ListN.{getD}
 use Rattle.laws.specs.Places.{Plane, lineAt}
 use Rattle.laws.proofs.Bools.{and-false}
+use Rattle.lines.specs.Depth.{Depth}
 use Rattle.lines.specs.Luma.{kept, normalLine, strongLine, lumaLine}
 use Rattle.lines.specs.Chroma.{same, normalShort, strongShort, chromaLine}
 use Rattle.lines.specs.Planes.{toLine, fromSix, onLine, toShort, fromTwo, onShort, lumaAt, chromaAt}
@@ -34,34 +35,34 @@ pub record Shape : Type 0 where
   pub at-strong : (bs alpha beta tc : ℕ) → 4 ≤ bs → (vs : List ℕ) → line bs alpha beta tc vs ≡ strong alpha beta vs
   pub line-off : (bs alpha beta tc : ℕ) → alpha ≡ 0 → (vs : List ℕ) → line bs alpha beta tc vs ≡ keep vs
 
-unfoldable pub long : Shape
+unfoldable pub long : Depth → Shape
 unfolding lumaAt
-long = record {
+long d = record {
   n = 6;
   keep = onLine kept;
-  normal = λ alpha beta tc. onLine (normalLine 255 alpha beta tc);
+  normal = λ alpha beta tc. onLine (normalLine d alpha beta tc);
   strong = λ alpha beta. onLine (strongLine alpha beta);
-  line = λ bs alpha beta tc. onLine (lumaLine 255 bs alpha beta tc);
+  line = λ bs alpha beta tc. onLine (lumaLine d bs alpha beta tc);
   keeps = λ at step xs. lumaAt-kept at step xs kept (λ l. refl);
-  at-none = λ bs alpha beta tc h vs. ap fromSix (luma-none 255 bs alpha beta tc h (toLine vs));
-  at-normal = λ bs alpha beta tc h k vs. ap fromSix (luma-normal 255 bs alpha beta tc h k (toLine vs));
-  at-strong = λ bs alpha beta tc h vs. ap fromSix (luma-strong 255 bs alpha beta tc h (toLine vs));
-  line-off = λ bs alpha beta tc h vs. ap fromSix (luma-shut 255 bs alpha beta tc (inl h) (toLine vs));
+  at-none = λ bs alpha beta tc h vs. ap fromSix (luma-none d bs alpha beta tc h (toLine vs));
+  at-normal = λ bs alpha beta tc h k vs. ap fromSix (luma-normal d bs alpha beta tc h k (toLine vs));
+  at-strong = λ bs alpha beta tc h vs. ap fromSix (luma-strong d bs alpha beta tc h (toLine vs));
+  line-off = λ bs alpha beta tc h vs. ap fromSix (luma-shut d bs alpha beta tc (inl h) (toLine vs));
 }
 
-unfoldable pub short : Shape
+unfoldable pub short : Depth → Shape
 unfolding chromaAt
-short = record {
+short d = record {
   n = 2;
   keep = onShort same;
-  normal = λ alpha beta tc. onShort (normalShort 255 alpha beta tc);
+  normal = λ alpha beta tc. onShort (normalShort d alpha beta tc);
   strong = λ alpha beta. onShort (strongShort alpha beta);
-  line = λ bs alpha beta tc. onShort (chromaLine 255 bs alpha beta tc);
+  line = λ bs alpha beta tc. onShort (chromaLine d bs alpha beta tc);
   keeps = λ at step xs. chromaAt-kept at step xs same (λ l. refl);
-  at-none = λ bs alpha beta tc h vs. ap fromTwo (chroma-none 255 bs alpha beta tc h (toShort vs));
-  at-normal = λ bs alpha beta tc h k vs. ap fromTwo (chroma-normal 255 bs alpha beta tc h k (toShort vs));
-  at-strong = λ bs alpha beta tc h vs. ap fromTwo (chroma-strong 255 bs alpha beta tc h (toShort vs));
-  line-off = λ bs alpha beta tc h vs. ap fromTwo (chroma-shut 255 bs alpha beta tc (inl h) (toShort vs));
+  at-none = λ bs alpha beta tc h vs. ap fromTwo (chroma-none d bs alpha beta tc h (toShort vs));
+  at-normal = λ bs alpha beta tc h k vs. ap fromTwo (chroma-normal d bs alpha beta tc h k (toShort vs));
+  at-strong = λ bs alpha beta tc h vs. ap fromTwo (chroma-strong d bs alpha beta tc h (toShort vs));
+  line-off = λ bs alpha beta tc h vs. ap fromTwo (chroma-shut d bs alpha beta tc (inl h) (toShort vs));
 }
 
 -- ---- strengths of 4 and above are one kind

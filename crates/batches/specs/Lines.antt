@@ -9,6 +9,7 @@ use lib.Dec.{ltb}
 use lib.ListN.{getD}
 use Rattle.laws.specs.Loop.{upTo}
 use Rattle.laws.specs.Places.{Plane}
+use Rattle.lines.specs.Depth.{Depth}
 use Rattle.lines.specs.Luma.{Line, lumaLine}
 use Rattle.lines.specs.Chroma.{Short, chromaLine}
 use Rattle.lines.specs.Planes.{lumaAt, chromaAt}
@@ -23,19 +24,19 @@ abbrev pub strengthAt : ℕ → Four → ℕ → ℕ
 strengthAt n s k = getD (s .a ∷ s .b ∷ s .c ∷ s .d ∷ []) (k / n) 0
 
 -- what a line of the strength bs becomes
-abbrev pub lumaWith : Thresholds → ℕ → Line → Six
-lumaWith l bs = lumaLine 255 bs (l .alpha) (l .beta) (tcBy bs (l .tc1) (l .tc2) (l .tc3))
+abbrev pub lumaWith : Depth → Thresholds → ℕ → Line → Six
+lumaWith d l bs = lumaLine d bs (l .alpha) (l .beta) (tcBy bs (l .tc1) (l .tc2) (l .tc3))
 
-abbrev pub chromaWith : Thresholds → ℕ → Short → Two
-chromaWith l bs = chromaLine 255 bs (l .alpha) (l .beta) (tcBy bs (l .tc1) (l .tc2) (l .tc3))
+abbrev pub chromaWith : Depth → Thresholds → ℕ → Short → Two
+chromaWith d l bs = chromaLine d bs (l .alpha) (l .beta) (tcBy bs (l .tc1) (l .tc2) (l .tc3))
 
 -- the sixteen luma lines of an edge, or its eight chroma lines, one after the other: `at` is the place of the
 -- first one's first sample, `along` the way from a line to the next, and `step` the way across the edge
-unfoldable pub longLines : Four → Thresholds → ℕ → ℕ → ℕ → Plane → Plane
-longLines s l at along step = upTo 16 (λ k. lumaAt (lumaWith l (strengthAt 4 s k)) (at + k * along) step)
+unfoldable pub longLines : Depth → Four → Thresholds → ℕ → ℕ → ℕ → Plane → Plane
+longLines d s l at along step = upTo 16 (λ k. lumaAt (lumaWith d l (strengthAt 4 s k)) (at + k * along) step)
 
-unfoldable pub shortLines : Four → Thresholds → ℕ → ℕ → ℕ → Plane → Plane
-shortLines s l at along step = upTo 8 (λ k. chromaAt (chromaWith l (strengthAt 2 s k)) (at + k * along) step)
+unfoldable pub shortLines : Depth → Four → Thresholds → ℕ → ℕ → ℕ → Plane → Plane
+shortLines d s l at along step = upTo 8 (λ k. chromaAt (chromaWith d l (strengthAt 2 s k)) (at + k * along) step)
 
 -- n lines of eight samples whose places are apart. Vertical: a line's samples stand side by side, and the
 -- lines are a row apart. Horizontal: the lines stand side by side, and a line's samples are a row apart
@@ -51,8 +52,8 @@ upper k = k
 abbrev pub lower : ℕ → ℕ
 lower k = 64 + k
 
-abbrev pub longAt : Four → Thresholds → ℕ → Plane → Plane
-longAt s l k = lumaAt (lumaWith l (strengthAt 4 s k)) (upper k) 16
+abbrev pub longAt : Depth → Four → Thresholds → ℕ → Plane → Plane
+longAt d s l k = lumaAt (lumaWith d l (strengthAt 4 s k)) (upper k) 16
 
 -- of sixteen chroma lines the first eight are U's, by the thresholds l, and the others V's, by m
 abbrev pub side : {A : Type 0} → A → A → ℕ → A
@@ -61,8 +62,8 @@ side l m k = cond (ltb k 8) l m
 abbrev pub sideStrength : Four → ℕ → ℕ
 sideStrength s k = strengthAt 2 s (k % 8)
 
-abbrev pub shortAt : (ℕ → ℕ) → Four → Thresholds → Thresholds → ℕ → Plane → Plane
-shortAt place s l m k = chromaAt (chromaWith (side l m k) (sideStrength s k)) (place k) 16
+abbrev pub shortAt : Depth → (ℕ → ℕ) → Four → Thresholds → Thresholds → ℕ → Plane → Plane
+shortAt d place s l m k = chromaAt (chromaWith d (side l m k) (sideStrength s k)) (place k) 16
 
 -- a pass over lines: those whose strength is on are filtered
 abbrev pub only : (ℕ → Bool) → (ℕ → ℕ) → (ℕ → Plane → Plane) → ℕ → Plane → Plane

@@ -7,6 +7,7 @@ ghost use Prim.Native.Nat.{_+_, _*_, _<_};
 ghost use mathlib.Core.Bool.{_&&_};
 ghost use lib.ListN.{length};
 ghost use Rattle.laws.specs.Loop.{upTo};
+ghost use Rattle.lines.specs.Depth.{eight};
 ghost use Rattle.lines.specs.Inner.{tcBy};
 ghost use Rattle.batches.specs.Lanes.{still};
 ghost use Rattle.batches.specs.Lines.{Straight, upper, lower, shortAt, shortLines};
@@ -76,7 +77,7 @@ fn tc0(bs: u8, l: Thresholds) -> u8
 // second edge is in reach, as at the picture's border.
 pub fn chroma_lines(plane: &mut [u8], at: usize, along: usize, step: usize, s: Four, l: Thresholds)
     requires { ⌜ at + 7 * along + 3 * step < length (now plane) ⌝ }
-    ensures { λ _. ⌜ now (plane .exit) ≡ shortLines s l at along step (now (plane .entry)) ⌝ }
+    ensures { λ _. ⌜ now (plane .exit) ≡ shortLines eight s l at along step (now (plane .entry)) ⌝ }
 {
     if is_still(s, l) {
         return;
@@ -99,7 +100,7 @@ fn both_still(e: Both) -> bool
 
 // Each line of the block at its own strength.
 fn block(t: [u8; 128], first: Both, second: Both) -> [u8; 128]
-    ensures { λ r. ⌜ r ≡ upTo 16 (shortAt lower (second .s) (second .u) (second .v)) (upTo 16 (shortAt upper (first .s) (first .u) (first .v)) t) ⌝ }
+    ensures { λ r. ⌜ r ≡ upTo 16 (shortAt eight lower (second .s) (second .u) (second .v)) (upTo 16 (shortAt eight upper (first .s) (first .u) (first .v)) t) ⌝ }
 {
     let s1 = first.s;
     let u1 = first.u;
@@ -123,8 +124,8 @@ pub fn chroma_pair(
 )
     requires { ⌜ (at + 7 * along + 7 * step < length (now u)) × (at + 7 * along + 7 * step < length (now v)) ⌝ }
     requires { ⌜ Straight 8 along step ⌝ }
-    ensures { λ _. ⌜ now (u .exit) ≡ shortLines (second .s) (second .u) (at + 4 * step) along step (shortLines (first .s) (first .u) at along step (now (u .entry))) ⌝ }
-    ensures { λ _. ⌜ now (v .exit) ≡ shortLines (second .s) (second .v) (at + 4 * step) along step (shortLines (first .s) (first .v) at along step (now (v .entry))) ⌝ }
+    ensures { λ _. ⌜ now (u .exit) ≡ shortLines eight (second .s) (second .u) (at + 4 * step) along step (shortLines eight (first .s) (first .u) at along step (now (u .entry))) ⌝ }
+    ensures { λ _. ⌜ now (v .exit) ≡ shortLines eight (second .s) (second .v) (at + 4 * step) along step (shortLines eight (first .s) (first .v) at along step (now (v .entry))) ⌝ }
 {
     if both_still(first) & both_still(second) {
         return;

@@ -2,6 +2,7 @@
 // lent by the thresholds l, V's by m.
 ghost use mathlib.Core.Path.{_≡_};
 ghost use Rattle.laws.specs.Loop.{upTo};
+ghost use Rattle.lines.specs.Depth.{eight};
 ghost use Rattle.batches.specs.Lanes.{isWeak, isStrong};
 ghost use Rattle.batches.specs.Lines.{upper, lower, sideStrength, shortAt, only};
 use crate::lanes::Four;
@@ -17,7 +18,7 @@ use lines::planes::chroma_normal;
 use lines::planes::chroma_strong;
 
 fn first_normal(t: [u8; 128], s: Four, l: Thresholds, m: Thresholds) -> [u8; 128]
-    ensures { λ r. ⌜ r ≡ upTo 16 (only isWeak (sideStrength s) (shortAt upper s l m)) t ⌝ }
+    ensures { λ r. ⌜ r ≡ upTo 16 (only isWeak (sideStrength s) (shortAt eight upper s l m)) t ⌝ }
 {
     if !any_weak(s) {
         return t;
@@ -33,7 +34,7 @@ fn first_normal(t: [u8; 128], s: Four, l: Thresholds, m: Thresholds) -> [u8; 128
 }
 
 fn first_strong(t: [u8; 128], s: Four, l: Thresholds, m: Thresholds) -> [u8; 128]
-    ensures { λ r. ⌜ r ≡ upTo 16 (only isStrong (sideStrength s) (shortAt upper s l m)) t ⌝ }
+    ensures { λ r. ⌜ r ≡ upTo 16 (only isStrong (sideStrength s) (shortAt eight upper s l m)) t ⌝ }
 {
     if !any_strong(s) {
         return t;
@@ -48,7 +49,7 @@ fn first_strong(t: [u8; 128], s: Four, l: Thresholds, m: Thresholds) -> [u8; 128
 }
 
 fn second_normal(t: [u8; 128], s: Four, l: Thresholds, m: Thresholds) -> [u8; 128]
-    ensures { λ r. ⌜ r ≡ upTo 16 (only isWeak (sideStrength s) (shortAt lower s l m)) t ⌝ }
+    ensures { λ r. ⌜ r ≡ upTo 16 (only isWeak (sideStrength s) (shortAt eight lower s l m)) t ⌝ }
 {
     if !any_weak(s) {
         return t;
@@ -64,7 +65,7 @@ fn second_normal(t: [u8; 128], s: Four, l: Thresholds, m: Thresholds) -> [u8; 12
 }
 
 fn second_strong(t: [u8; 128], s: Four, l: Thresholds, m: Thresholds) -> [u8; 128]
-    ensures { λ r. ⌜ r ≡ upTo 16 (only isStrong (sideStrength s) (shortAt lower s l m)) t ⌝ }
+    ensures { λ r. ⌜ r ≡ upTo 16 (only isStrong (sideStrength s) (shortAt eight lower s l m)) t ⌝ }
 {
     if !any_strong(s) {
         return t;
@@ -80,13 +81,13 @@ fn second_strong(t: [u8; 128], s: Four, l: Thresholds, m: Thresholds) -> [u8; 12
 
 // Each line of the first edge at its own strength.
 pub fn first_edge(t: [u8; 128], s: Four, l: Thresholds, m: Thresholds) -> [u8; 128]
-    ensures { λ r. ⌜ r ≡ upTo 16 (shortAt upper s l m) t ⌝ }
+    ensures { λ r. ⌜ r ≡ upTo 16 (shortAt eight upper s l m) t ⌝ }
 {
     first_strong(first_normal(t, s, l, m), s, l, m)
 }
 
 pub fn second_edge(t: [u8; 128], s: Four, l: Thresholds, m: Thresholds) -> [u8; 128]
-    ensures { λ r. ⌜ r ≡ upTo 16 (shortAt lower s l m) t ⌝ }
+    ensures { λ r. ⌜ r ≡ upTo 16 (shortAt eight lower s l m) t ⌝ }
 {
     second_strong(second_normal(t, s, l, m), s, l, m)
 }

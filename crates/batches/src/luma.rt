@@ -3,6 +3,7 @@
 ghost use mathlib.Core.Path.{_≡_};
 ghost use Prim.Native.Nat.{_+_, _*_, _<_};
 ghost use lib.ListN.{length};
+ghost use Rattle.lines.specs.Depth.{eight};
 ghost use Rattle.batches.specs.Lines.{Straight, longLines};
 ghost use Rattle.batches.specs.Moves.{taken, given};
 use crate::lanes::Four;
@@ -43,7 +44,7 @@ fn give(p: &mut [u8], at: usize, along: usize, step: usize, t: [u8; 128])
 pub fn luma_lines(plane: &mut [u8], at: usize, along: usize, step: usize, s: Four, l: Thresholds)
     requires { ⌜ at + 15 * along + 7 * step < length (now plane) ⌝ }
     requires { ⌜ Straight 16 along step ⌝ }
-    ensures { λ _. ⌜ now (plane .exit) ≡ longLines s l at along step (now (plane .entry)) ⌝ }
+    ensures { λ _. ⌜ now (plane .exit) ≡ longLines eight s l at along step (now (plane .entry)) ⌝ }
 {
     if is_still(s, l) {
         return;

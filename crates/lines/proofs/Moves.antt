@@ -13,6 +13,7 @@ use Rattle.laws.specs.Clip.{clip1, dist}
 use Rattle.laws.proofs.Abs.{abs-near}
 use Rattle.laws.proofs.Clip.{up-near, down-near}
 use Rattle.laws.proofs.Cond.{cond-both}
+use Rattle.lines.specs.Depth.{Depth}
 use Rattle.lines.specs.Filter.{deltaOf}
 use Rattle.lines.specs.Luma.{Line, kept, flatP, flatQ, one, tcOf, nudgeOf, innerOf, lumaNormal, lumaSamples, normalLine, lumaLine}
 use Rattle.lines.specs.Chroma.{Short, same, chromaNormal, chromaSamples, normalShort, chromaLine}
@@ -53,39 +54,39 @@ unfolding innerOf
 inner-near flat tc0 x2 x1 p0 q0 =
     cond-both (λ (n : ℕ). dist n x1 ≤ tc0) flat (le-trans (abs-near x1 (nudgeOf tc0 x2 x1 p0 q0)) (nudge-abs tc0 x2 x1 p0 q0)) (self x1 tc0)
 
-normal-moves : (top beta tc0 : ℕ) (l : Line) → LineIn top l → Moved tc0 l (lumaNormal top beta tc0 l)
+normal-moves : (d : Depth) (beta tc0 : ℕ) (l : Line) → LineIn (d .top) l → Moved tc0 l (lumaNormal d beta tc0 l)
 unfolding lumaNormal
-normal-moves top beta tc0 l h =
+normal-moves d beta tc0 l h =
     let t = two (flatP beta l) (flatQ beta l) in
     record {
       p2 = refl;
       p1 = inner-near (flatP beta l) tc0 (l .p2) (l .p1) (l .p0) (l .q0);
-      p0 = le-trans (up-delta top (tcOf beta tc0 l) (l .p1) (l .p0) (l .q0) (l .q1) (h .p0)) (omega arith);
-      q0 = le-trans (down-delta top (tcOf beta tc0 l) (l .p1) (l .p0) (l .q0) (l .q1) (h .q0)) (omega arith);
+      p0 = le-trans (up-delta (d .top) (tcOf beta tc0 l) (l .p1) (l .p0) (l .q0) (l .q1) (h .p0)) (omega arith);
+      q0 = le-trans (down-delta (d .top) (tcOf beta tc0 l) (l .p1) (l .p0) (l .q0) (l .q1) (h .q0)) (omega arith);
       q1 = inner-near (flatQ beta l) tc0 (l .q2) (l .q1) (l .p0) (l .q0);
       q2 = refl;
     }
 
-pub luma-moves : (top bs alpha beta tc0 : ℕ) (l : Line) → bs < 4 → LineIn top l → Moved tc0 l (lumaLine top bs alpha beta tc0 l)
+pub luma-moves : (d : Depth) (bs alpha beta tc0 : ℕ) (l : Line) → bs < 4 → LineIn (d .top) l → Moved tc0 l (lumaLine d bs alpha beta tc0 l)
 unfolding lumaLine normalLine
-luma-moves top bs alpha beta tc0 l b h =
+luma-moves d bs alpha beta tc0 l b h =
     simp (lt-ltb bs 4 b)
-    (cond-both (Moved tc0 l) (eqb bs 0) still (cond-both (Moved tc0 l) (lumaSamples alpha beta l) (normal-moves top beta tc0 l h) still))
+    (cond-both (Moved tc0 l) (eqb bs 0) still (cond-both (Moved tc0 l) (lumaSamples alpha beta l) (normal-moves d beta tc0 l h) still))
   where
     still : Moved tc0 l (kept l)
     still = record { p2 = refl; p1 = omega arith; p0 = omega arith; q0 = omega arith; q1 = omega arith; q2 = refl }
 
-pub chroma-moves : (top bs alpha beta tc0 : ℕ) (l : Short) → bs < 4 → ShortIn top l → MovedShort tc0 l (chromaLine top bs alpha beta tc0 l)
+pub chroma-moves : (d : Depth) (bs alpha beta tc0 : ℕ) (l : Short) → bs < 4 → ShortIn (d .top) l → MovedShort tc0 l (chromaLine d bs alpha beta tc0 l)
 unfolding chromaLine normalShort chromaNormal
-chroma-moves top bs alpha beta tc0 l b h =
+chroma-moves d bs alpha beta tc0 l b h =
     simp (lt-ltb bs 4 b)
     (cond-both (MovedShort tc0 l) (eqb bs 0) still (cond-both (MovedShort tc0 l) (chromaSamples alpha beta l) moves still))
   where
     still : MovedShort tc0 l (same l)
     still = record { p0 = omega arith; q0 = omega arith }
 
-    moves : MovedShort tc0 l (chromaNormal top tc0 l)
+    moves : MovedShort tc0 l (chromaNormal d tc0 l)
     moves = record {
-      p0 = up-delta top (tc0 + 1) (l .p1) (l .p0) (l .q0) (l .q1) (h .p0);
-      q0 = down-delta top (tc0 + 1) (l .p1) (l .p0) (l .q0) (l .q1) (h .q0);
+      p0 = up-delta (d .top) (tc0 + 1) (l .p1) (l .p0) (l .q0) (l .q1) (h .p0);
+      q0 = down-delta (d .top) (tc0 + 1) (l .p1) (l .p0) (l .q0) (l .q1) (h .q0);
     }

@@ -8,6 +8,7 @@ use lib.Dec.{leb}
 use lib.IntN.{ℤ, pos, negsuc, negℤ, natAbs, _+ℤ_, _-ℤ_, _*ℤ_}
 use lib.Signed.{quotZ}
 use Rattle.laws.specs.Clip.{clip3, clip1, dist}
+use Rattle.lines.specs.Depth.{eight}
 use Rattle.lines.specs.Tables.{alphas, betas, tc0s, alphaAt, betaAt, tc0At}
 use Rattle.lines.specs.Filter.{filterSamples, deltaOf}
 use Rattle.lines.specs.Luma.{Line, line, flatQ, nudgeOf, innerOf, lumaNormal, normalLine, lumaLine}
@@ -40,7 +41,7 @@ q1From beta tc0 p0 q0 l = innerOf (flatQ beta l) tc0 (l .q2) (l .q1) p0 q0
 abbrev ordinary : Line
 ordinary = line 60 60 60 60 70 70 70 70
 
-pub q1-from-new-p0 : q1From 11 10 (lumaNormal 255 11 10 ordinary .p0) 70 ordinary ≡ lumaNormal 255 11 10 ordinary .q1 → ⊥
+pub q1-from-new-p0 : q1From 11 10 (lumaNormal eight 11 10 ordinary .p0) 70 ordinary ≡ lumaNormal eight 11 10 ordinary .q1 → ⊥
 unfolding lumaNormal innerOf nudgeOf deltaOf clip1 clip3
 q1-from-new-p0 e = omega arith
 
@@ -48,7 +49,7 @@ q1-from-new-p0 e = omega arith
 abbrev bright : Line
 bright = line 254 254 255 254 255 238 255 255
 
-pub q1-from-both-new : q1From 18 25 (lumaNormal 255 18 25 bright .p0) (lumaNormal 255 18 25 bright .q0) bright ≡ lumaNormal 255 18 25 bright .q1 → ⊥
+pub q1-from-both-new : q1From 18 25 (lumaNormal eight 18 25 bright .p0) (lumaNormal eight 18 25 bright .q0) bright ≡ lumaNormal eight 18 25 bright .q1 → ⊥
 unfolding lumaNormal innerOf nudgeOf deltaOf clip1 clip3
 q1-from-both-new e = omega arith
 
@@ -56,12 +57,12 @@ q1-from-both-new e = omega arith
 abbrev eighth : Short
 eighth = short 60 60 70 70
 
-pub chroma-without-one : clip1 255 (pos 60 +ℤ deltaOf (tc0At 30 0) 60 60 70 70) ≡ chromaLine 255 1 (alphaAt 30) (betaAt 30) (tc0At 30 0) eighth .p0 → ⊥
+pub chroma-without-one : clip1 (eight .top) (pos 60 +ℤ deltaOf (tc0At 30 0) 60 60 70 70) ≡ chromaLine eight 1 (alphaAt 30) (betaAt 30) (tc0At 30 0) eighth .p0 → ⊥
 unfolding chromaLine normalShort chromaNormal deltaOf clip1 clip3 alphas betas tc0s
 chroma-without-one e = omega arith
 
 -- ---- tC0 of another strength: P3 with that of strength 3
-pub tc0-of-3 : lumaLine 255 2 (alphaAt 30) (betaAt 30) (tc0At 30 2) ordinary .p0 ≡ lumaLine 255 2 (alphaAt 30) (betaAt 30) (tc0At 30 1) ordinary .p0 → ⊥
+pub tc0-of-3 : lumaLine eight 2 (alphaAt 30) (betaAt 30) (tc0At 30 2) ordinary .p0 ≡ lumaLine eight 2 (alphaAt 30) (betaAt 30) (tc0At 30 1) ordinary .p0 → ⊥
 unfolding lumaLine normalLine lumaNormal innerOf nudgeOf deltaOf clip1 clip3 alphas betas tc0s
 tc0-of-3 e = omega arith
 

@@ -9,33 +9,34 @@ use borrow.Author.Tests.{eq-eqb, ne-eqb, lt-ltb, le-ltb}
 use lib.Dec.{ltb, eqb}
 use Rattle.laws.specs.Clip.{dist}
 use Rattle.laws.proofs.Cond.{cond-both}
+use Rattle.lines.specs.Depth.{Depth}
 use Rattle.lines.specs.Filter.{filterSamples}
 use Rattle.lines.specs.Luma.{Line, kept, normalLine, strongLine, lumaLine}
 use Rattle.lines.specs.Chroma.{Short, same, normalShort, strongShort, chromaLine}
 
 -- ---- by strength
-module _ (top bs alpha beta tc0 : ℕ) where
-  pub luma-none : bs ≡ 0 → (l : Line) → lumaLine top bs alpha beta tc0 l ≡ kept l
+module _ (d : Depth) (bs alpha beta tc0 : ℕ) where
+  pub luma-none : bs ≡ 0 → (l : Line) → lumaLine d bs alpha beta tc0 l ≡ kept l
   unfolding lumaLine
   luma-none h l = simp (eq-eqb bs 0 h)
 
-  pub luma-normal : (bs ≡ 0 → ⊥) → bs < 4 → (l : Line) → lumaLine top bs alpha beta tc0 l ≡ normalLine top alpha beta tc0 l
+  pub luma-normal : (bs ≡ 0 → ⊥) → bs < 4 → (l : Line) → lumaLine d bs alpha beta tc0 l ≡ normalLine d alpha beta tc0 l
   unfolding lumaLine
   luma-normal h k l = simp (ne-eqb bs 0 h, lt-ltb bs 4 k)
 
-  pub luma-strong : 4 ≤ bs → (l : Line) → lumaLine top bs alpha beta tc0 l ≡ strongLine alpha beta l
+  pub luma-strong : 4 ≤ bs → (l : Line) → lumaLine d bs alpha beta tc0 l ≡ strongLine alpha beta l
   unfolding lumaLine
   luma-strong k l = simp (ne-eqb bs 0 (λ e. omega arith), le-ltb bs 4 k)
 
-  pub chroma-none : bs ≡ 0 → (l : Short) → chromaLine top bs alpha beta tc0 l ≡ same l
+  pub chroma-none : bs ≡ 0 → (l : Short) → chromaLine d bs alpha beta tc0 l ≡ same l
   unfolding chromaLine
   chroma-none h l = simp (eq-eqb bs 0 h)
 
-  pub chroma-normal : (bs ≡ 0 → ⊥) → bs < 4 → (l : Short) → chromaLine top bs alpha beta tc0 l ≡ normalShort top alpha beta tc0 l
+  pub chroma-normal : (bs ≡ 0 → ⊥) → bs < 4 → (l : Short) → chromaLine d bs alpha beta tc0 l ≡ normalShort d alpha beta tc0 l
   unfolding chromaLine
   chroma-normal h k l = simp (ne-eqb bs 0 h, lt-ltb bs 4 k)
 
-  pub chroma-strong : 4 ≤ bs → (l : Short) → chromaLine top bs alpha beta tc0 l ≡ strongShort alpha beta l
+  pub chroma-strong : 4 ≤ bs → (l : Short) → chromaLine d bs alpha beta tc0 l ≡ strongShort alpha beta l
   unfolding chromaLine
   chroma-strong k l = simp (ne-eqb bs 0 (λ e. omega arith), le-ltb bs 4 k)
 
@@ -48,14 +49,14 @@ pub shut : (alpha beta p1 p0 q0 q1 : ℕ) → (alpha ≡ 0) ⊎ (beta ≡ 0) →
 shut alpha beta p1 p0 q0 q1 (inl e) = simp (le-ltb (dist p0 q0) alpha (omega arith))
 shut alpha beta p1 p0 q0 q1 (inr e) = simp (le-ltb (dist q1 q0) beta (omega arith)) (and-false (ltb (dist p0 q0) alpha && ltb (dist p1 p0) beta))
 
-module _ (top bs alpha beta tc0 : ℕ) (h : (alpha ≡ 0) ⊎ (beta ≡ 0)) where
-  pub luma-shut : (l : Line) → lumaLine top bs alpha beta tc0 l ≡ kept l
+module _ (d : Depth) (bs alpha beta tc0 : ℕ) (h : (alpha ≡ 0) ⊎ (beta ≡ 0)) where
+  pub luma-shut : (l : Line) → lumaLine d bs alpha beta tc0 l ≡ kept l
   unfolding lumaLine normalLine strongLine
   luma-shut l =
       let e = shut alpha beta (l .p1) (l .p0) (l .q0) (l .q1) h in
       cond-both (λ r. r ≡ kept l) (eqb bs 0) (λ i. kept l) (cond-both (λ r. r ≡ kept l) (ltb bs 4) (simp e) (simp e))
 
-  pub chroma-shut : (l : Short) → chromaLine top bs alpha beta tc0 l ≡ same l
+  pub chroma-shut : (l : Short) → chromaLine d bs alpha beta tc0 l ≡ same l
   unfolding chromaLine normalShort strongShort
   chroma-shut l =
       let e = shut alpha beta (l .p1) (l .p0) (l .q0) (l .q1) h in

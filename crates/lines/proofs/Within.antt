@@ -1,5 +1,5 @@
--- Samples stay samples: a line with none above `top` is filtered to one with none above it, at any depth.
--- Assumes nothing.
+-- Samples stay samples: at any depth a line with none above its largest sample is filtered to one with none
+-- above it. Assumes nothing.
 use mathlib.Core.Bool.{Bool, _&&_}
 use mathlib.Core.List.{List, [], _∷_}
 use Prim.Native.Nat.{ℕ, _+_, _/_, _≤_}
@@ -12,6 +12,7 @@ use Rattle.laws.specs.Local.{All}
 use Rattle.laws.proofs.Clip.{clip1-le}
 use Rattle.laws.proofs.Cond.{cond-both}
 use Rattle.laws.proofs.Places.{Within, all-at, through-within}
+use Rattle.lines.specs.Depth.{Depth}
 use Rattle.lines.specs.Luma.{Line, kept, flatP, flatQ, closeTo, nudgeOf, innerOf, lumaNormal, strongSide, lumaStrong, lumaSamples, normalLine, strongLine, lumaLine}
 use Rattle.lines.specs.Chroma.{Short, same, chromaNormal, chromaStrong, chromaSamples, normalShort, strongShort, chromaLine}
 use Rattle.lines.specs.Planes.{toLine, fromSix, toShort, fromTwo, onLine, onShort, lumaAt, chromaAt}
@@ -60,14 +61,14 @@ inner-le top flat tc0 x2 x1 p0 q0 h2 h1 hp hq = cond-both (λ (n : ℕ). n ≤ t
     moved : natAbs (pos x1 +ℤ nudgeOf tc0 x2 x1 p0 q0) ≤ top
     moved = let l = inner-lands tc0 x2 x1 p0 q0 in rw (l .is) (l .within top h1 half)
 
-normal-in : (top beta tc0 : ℕ) (l : Line) → LineIn top l → SixIn top (lumaNormal top beta tc0 l)
+normal-in : (d : Depth) (beta tc0 : ℕ) (l : Line) → LineIn (d .top) l → SixIn (d .top) (lumaNormal d beta tc0 l)
 unfolding lumaNormal
-normal-in top beta tc0 l h = record {
+normal-in d beta tc0 l h = record {
   p2 = h .p2;
-  p1 = inner-le top (flatP beta l) tc0 (l .p2) (l .p1) (l .p0) (l .q0) (h .p2) (h .p1) (h .p0) (h .q0);
-  p0 = clip1-le top _;
-  q0 = clip1-le top _;
-  q1 = inner-le top (flatQ beta l) tc0 (l .q2) (l .q1) (l .p0) (l .q0) (h .q2) (h .q1) (h .p0) (h .q0);
+  p1 = inner-le (d .top) (flatP beta l) tc0 (l .p2) (l .p1) (l .p0) (l .q0) (h .p2) (h .p1) (h .p0) (h .q0);
+  p0 = clip1-le (d .top) _;
+  q0 = clip1-le (d .top) _;
+  q1 = inner-le (d .top) (flatQ beta l) tc0 (l .q2) (l .q1) (l .p0) (l .q0) (h .q2) (h .q1) (h .p0) (h .q0);
   q2 = h .q2;
 }
 
@@ -89,27 +90,27 @@ strong-in top alpha beta l h =
     let q = side-in top (closeTo alpha l && flatQ beta l) (l .q3) (l .q2) (l .q1) (l .q0) (l .p0) (l .p1) (h .q3) (h .q2) (h .q1) (h .q0) (h .p0) (h .p1) in
     record { p2 = p .x2; p1 = p .x1; p0 = p .x0; q0 = q .x0; q1 = q .x1; q2 = q .x2 }
 
-pub luma-in : (top bs alpha beta tc0 : ℕ) (l : Line) → LineIn top l → SixIn top (lumaLine top bs alpha beta tc0 l)
+pub luma-in : (d : Depth) (bs alpha beta tc0 : ℕ) (l : Line) → LineIn (d .top) l → SixIn (d .top) (lumaLine d bs alpha beta tc0 l)
 unfolding lumaLine normalLine strongLine
-luma-in top bs alpha beta tc0 l h =
-    cond-both (SixIn top) (eqb bs 0) stays
-    (cond-both (SixIn top) (ltb bs 4)
-    (cond-both (SixIn top) (lumaSamples alpha beta l) (normal-in top beta tc0 l h) stays)
-    (cond-both (SixIn top) (lumaSamples alpha beta l) (strong-in top alpha beta l h) stays))
+luma-in d bs alpha beta tc0 l h =
+    cond-both (SixIn (d .top)) (eqb bs 0) stays
+    (cond-both (SixIn (d .top)) (ltb bs 4)
+    (cond-both (SixIn (d .top)) (lumaSamples alpha beta l) (normal-in d beta tc0 l h) stays)
+    (cond-both (SixIn (d .top)) (lumaSamples alpha beta l) (strong-in (d .top) alpha beta l h) stays))
   where
-    stays : SixIn top (kept l)
+    stays : SixIn (d .top) (kept l)
     stays = record { p2 = h .p2; p1 = h .p1; p0 = h .p0; q0 = h .q0; q1 = h .q1; q2 = h .q2 }
 
 -- ---- chroma on values
-pub chroma-in : (top bs alpha beta tc0 : ℕ) (l : Short) → ShortIn top l → TwoIn top (chromaLine top bs alpha beta tc0 l)
+pub chroma-in : (d : Depth) (bs alpha beta tc0 : ℕ) (l : Short) → ShortIn (d .top) l → TwoIn (d .top) (chromaLine d bs alpha beta tc0 l)
 unfolding chromaLine normalShort strongShort chromaNormal chromaStrong
-chroma-in top bs alpha beta tc0 l h =
-    cond-both (TwoIn top) (eqb bs 0) stays
-    (cond-both (TwoIn top) (ltb bs 4)
-    (cond-both (TwoIn top) (chromaSamples alpha beta l) (record { p0 = clip1-le top _; q0 = clip1-le top _ }) stays)
-    (cond-both (TwoIn top) (chromaSamples alpha beta l) (record { p0 = omega arith; q0 = omega arith }) stays))
+chroma-in d bs alpha beta tc0 l h =
+    cond-both (TwoIn (d .top)) (eqb bs 0) stays
+    (cond-both (TwoIn (d .top)) (ltb bs 4)
+    (cond-both (TwoIn (d .top)) (chromaSamples alpha beta l) (record { p0 = clip1-le (d .top) _; q0 = clip1-le (d .top) _ }) stays)
+    (cond-both (TwoIn (d .top)) (chromaSamples alpha beta l) (record { p0 = omega arith; q0 = omega arith }) stays))
   where
-    stays : TwoIn top (same l)
+    stays : TwoIn (d .top) (same l)
     stays = record { p0 = h .p0; q0 = h .q0 }
 
 -- ---- on planes

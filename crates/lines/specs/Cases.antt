@@ -5,6 +5,7 @@ use mathlib.Core.List.{List, [], _∷_, _++_}
 use lib.IntN.{ℤ, pos}
 use Rattle.laws.specs.Cases.{Case}
 use Rattle.laws.specs.Places.{Plane}
+use Rattle.lines.specs.Depth.{Depth, eight}
 use Rattle.lines.specs.Thresholds.{alphaOf, betaOf, tc0Of}
 use Rattle.lines.specs.Luma.{lumaLine}
 use Rattle.lines.specs.Chroma.{chromaLine}
@@ -12,11 +13,11 @@ use Rattle.lines.specs.Planes.{lumaAt, chromaAt}
 
 -- alpha, beta and the three tC0 of a QP and an offset
 abbrev levels : ℤ → ℤ → List ℕ
-levels qp off = alphaOf 1 qp off ∷ betaOf 1 qp off ∷ tc0Of 1 qp off 0 ∷ tc0Of 1 qp off 1 ∷ tc0Of 1 qp off 2 ∷ []
+levels qp off = alphaOf eight qp off ∷ betaOf eight qp off ∷ tc0Of eight qp off 0 ∷ tc0Of eight qp off 1 ∷ tc0Of eight qp off 2 ∷ []
 
--- a rule at the strength bs and QP 30: it takes the largest sample, bs, alpha, beta and tC0
-abbrev at30 : {A : Type 0} → (ℕ → ℕ → ℕ → ℕ → ℕ → A) → ℕ → A
-at30 rule bs = rule 255 bs (alphaOf 1 (pos 30) (pos 0)) (betaOf 1 (pos 30) (pos 0)) (tc0Of 1 (pos 30) (pos 0) (bs - 1))
+-- a rule at the strength bs and QP 30: it takes the depth, bs, alpha, beta and tC0
+abbrev at30 : {A : Type 0} → (Depth → ℕ → ℕ → ℕ → ℕ → A) → ℕ → A
+at30 rule bs = rule eight bs (alphaOf eight (pos 30) (pos 0)) (betaOf eight (pos 30) (pos 0)) (tc0Of eight (pos 30) (pos 0) (bs - 1))
 
 -- a plane of four samples a beside four samples b, its one luma line filtered at the strength bs
 abbrev luma : ℕ → ℕ → ℕ → Plane

@@ -1,10 +1,11 @@
--- A chroma line, p1 p0 | q0 q1, over the largest sample `top`: ITU-T H.264, clauses 8.7.2.2 to 8.7.2.4 with
+-- A chroma line, p1 p0 | q0 q1, of a depth: ITU-T H.264, clauses 8.7.2.2 to 8.7.2.4 with
 -- chromaStyleFilteringFlag set. Its outcome are the two samples that a filter can change.
 use Prim.Native.Nat.{ℕ, _+_, _*_, _/_}
 use mathlib.Core.Bool.{Bool, cond}
 use lib.Dec.{ltb, eqb}
 use lib.IntN.{ℤ, pos, _+ℤ_, _-ℤ_}
 use Rattle.laws.specs.Clip.{clip1}
+use Rattle.lines.specs.Depth.{Depth}
 use Rattle.lines.specs.Filter.{filterSamples, deltaOf}
 use Rattle.lines.specs.declared.shared.Two.{Two}
 
@@ -24,8 +25,8 @@ same l = record { p0 = l .p0; q0 = l .q0 }
 abbrev pub chromaDelta : ℕ → Short → ℤ
 chromaDelta tc0 l = deltaOf (tc0 + 1) (l .p1) (l .p0) (l .q0) (l .q1)
 
-unfoldable pub chromaNormal : ℕ → ℕ → Short → Two
-chromaNormal top tc0 l = record { p0 = clip1 top (pos (l .p0) +ℤ chromaDelta tc0 l); q0 = clip1 top (pos (l .q0) -ℤ chromaDelta tc0 l) }
+unfoldable pub chromaNormal : Depth → ℕ → Short → Two
+chromaNormal d tc0 l = record { p0 = clip1 (d .top) (pos (l .p0) +ℤ chromaDelta tc0 l); q0 = clip1 (d .top) (pos (l .q0) -ℤ chromaDelta tc0 l) }
 
 -- bS = 4
 unfoldable pub chromaStrong : Short → Two
@@ -35,13 +36,13 @@ chromaStrong l = record { p0 = (2 * l .p1 + l .p0 + l .q1 + 2) / 4; q0 = (2 * l 
 abbrev pub chromaSamples : ℕ → ℕ → Short → Bool
 chromaSamples alpha beta l = filterSamples alpha beta (l .p1) (l .p0) (l .q0) (l .q1)
 
-unfoldable pub normalShort : ℕ → ℕ → ℕ → ℕ → Short → Two
-normalShort top alpha beta tc0 l = cond (chromaSamples alpha beta l) (chromaNormal top tc0 l) (same l)
+unfoldable pub normalShort : Depth → ℕ → ℕ → ℕ → Short → Two
+normalShort d alpha beta tc0 l = cond (chromaSamples alpha beta l) (chromaNormal d tc0 l) (same l)
 
 unfoldable pub strongShort : ℕ → ℕ → Short → Two
 strongShort alpha beta l = cond (chromaSamples alpha beta l) (chromaStrong l) (same l)
 
 -- at the strength bs: 4 and above is strong, on any edge
-unfoldable pub chromaLine : ℕ → ℕ → ℕ → ℕ → ℕ → Short → Two
-chromaLine top bs alpha beta tc0 l =
-    cond (eqb bs 0) (same l) (cond (ltb bs 4) (normalShort top alpha beta tc0 l) (strongShort alpha beta l))
+unfoldable pub chromaLine : Depth → ℕ → ℕ → ℕ → ℕ → Short → Two
+chromaLine d bs alpha beta tc0 l =
+    cond (eqb bs 0) (same l) (cond (ltb bs 4) (normalShort d alpha beta tc0 l) (strongShort alpha beta l))

@@ -5,6 +5,7 @@ use mathlib.Core.Bool.{cond}
 use mathlib.Core.List.{List, _++_}
 use lib.Dec.{eqb}
 use lib.IntN.{ℤ}
+use Rattle.lines.specs.Depth.{Depth}
 use Rattle.lines.specs.Tables.{alphas, betas, tc0s, qpcs}
 use Rattle.lines.specs.Thresholds.{alphaOf, betaOf, tc0Of}
 use Rattle.lines.specs.declared.limits.Limits.{Limits}
@@ -15,11 +16,11 @@ unfoldable pub tables : List ℕ
 tables = alphas ++ betas ++ tc0s ++ qpcs
 
 -- no line passes the tests of an alpha or a beta of 0
-unfoldable pub thresholdsOf : ℕ → ℤ → ℤ → ℤ → Limits
-thresholdsOf scale qp a b =
-    cond (eqb (alphaOf scale qp a) 0) Nothing
-    (cond (eqb (betaOf scale qp b) 0) Nothing
-    (Filtered (alphaOf scale qp a) (betaOf scale qp b) (tc0Of scale qp a 0) (tc0Of scale qp a 1) (tc0Of scale qp a 2)))
+unfoldable pub thresholdsOf : Depth → ℤ → ℤ → ℤ → Limits
+thresholdsOf d qp a b =
+    cond (eqb (alphaOf d qp a) 0) Nothing
+    (cond (eqb (betaOf d qp b) 0) Nothing
+    (Filtered (alphaOf d qp a) (betaOf d qp b) (tc0Of d qp a 0) (tc0Of d qp a 1) (tc0Of d qp a 2)))
 
 -- tC0 of a strength, of the three
 unfoldable pub tcBy : ℕ → ℕ → ℕ → ℕ → ℕ

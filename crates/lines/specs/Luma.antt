@@ -1,11 +1,12 @@
--- A luma line, p3 p2 p1 p0 | q0 q1 q2 q3, over the largest sample `top`: ITU-T H.264, clauses 8.7.2.2 to
--- 8.7.2.4. Its outcome are the six samples that a filter can change.
+-- A luma line, p3 p2 p1 p0 | q0 q1 q2 q3, of a depth: ITU-T H.264, clauses 8.7.2.2 to 8.7.2.4. Its outcome
+-- are the six samples that a filter can change.
 use Prim.Native.Nat.{ℕ, _+_, _*_, _/_}
 use mathlib.Core.Bool.{Bool, true, false, cond, _&&_}
 use lib.Dec.{ltb, eqb}
 use lib.IntN.{ℤ, pos, negℤ, natAbs, _+ℤ_, _-ℤ_, _*ℤ_}
 use lib.Signed.{shrZ}
 use Rattle.laws.specs.Clip.{clip3, clip1, dist}
+use Rattle.lines.specs.Depth.{Depth}
 use Rattle.lines.specs.Filter.{filterSamples, deltaOf}
 use Rattle.lines.specs.declared.luma.Six.{Six}
 use Rattle.lines.specs.declared.luma.Side.{Side}
@@ -58,12 +59,12 @@ nudgeOf tc0 x2 x1 p0 q0 =
 unfoldable pub innerOf : Bool → ℕ → ℕ → ℕ → ℕ → ℕ → ℕ
 innerOf flat tc0 x2 x1 p0 q0 = cond flat (natAbs (pos x1 +ℤ nudgeOf tc0 x2 x1 p0 q0)) x1
 
-unfoldable pub lumaNormal : ℕ → ℕ → ℕ → Line → Six
-lumaNormal top beta tc0 l = record {
+unfoldable pub lumaNormal : Depth → ℕ → ℕ → Line → Six
+lumaNormal d beta tc0 l = record {
   p2 = l .p2;
   p1 = innerOf (flatP beta l) tc0 (l .p2) (l .p1) (l .p0) (l .q0);
-  p0 = clip1 top (pos (l .p0) +ℤ lumaDelta beta tc0 l);
-  q0 = clip1 top (pos (l .q0) -ℤ lumaDelta beta tc0 l);
+  p0 = clip1 (d .top) (pos (l .p0) +ℤ lumaDelta beta tc0 l);
+  q0 = clip1 (d .top) (pos (l .q0) -ℤ lumaDelta beta tc0 l);
   q1 = innerOf (flatQ beta l) tc0 (l .q2) (l .q1) (l .p0) (l .q0);
   q2 = l .q2;
 }
@@ -93,13 +94,13 @@ lumaStrong alpha beta l =
 abbrev pub lumaSamples : ℕ → ℕ → Line → Bool
 lumaSamples alpha beta l = filterSamples alpha beta (l .p1) (l .p0) (l .q0) (l .q1)
 
-unfoldable pub normalLine : ℕ → ℕ → ℕ → ℕ → Line → Six
-normalLine top alpha beta tc0 l = cond (lumaSamples alpha beta l) (lumaNormal top beta tc0 l) (kept l)
+unfoldable pub normalLine : Depth → ℕ → ℕ → ℕ → Line → Six
+normalLine d alpha beta tc0 l = cond (lumaSamples alpha beta l) (lumaNormal d beta tc0 l) (kept l)
 
 unfoldable pub strongLine : ℕ → ℕ → Line → Six
 strongLine alpha beta l = cond (lumaSamples alpha beta l) (lumaStrong alpha beta l) (kept l)
 
 -- at the strength bs: 4 and above is strong, on any edge
-unfoldable pub lumaLine : ℕ → ℕ → ℕ → ℕ → ℕ → Line → Six
-lumaLine top bs alpha beta tc0 l =
-    cond (eqb bs 0) (kept l) (cond (ltb bs 4) (normalLine top alpha beta tc0 l) (strongLine alpha beta l))
+unfoldable pub lumaLine : Depth → ℕ → ℕ → ℕ → ℕ → Line → Six
+lumaLine d bs alpha beta tc0 l =
+    cond (eqb bs 0) (kept l) (cond (ltb bs 4) (normalLine d alpha beta tc0 l) (strongLine alpha beta l))

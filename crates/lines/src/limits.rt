@@ -3,6 +3,7 @@
 ghost use mathlib.Core.Path.{_≡_};
 ghost use Prim.Native.Nat.{_<_};
 ghost use lib.IntN.{pos};
+ghost use Rattle.lines.specs.Depth.{eight};
 ghost use Rattle.lines.specs.Inner.{tables, thresholdsOf};
 ghost use Rattle.lines.specs.Thresholds.{average, indexOf, chromaQp};
 use crate::tables::alpha_at;
@@ -47,7 +48,7 @@ pub fn index(qp: i32, offset: i32) -> usize
 // QPC of a macroblock: its QP and the chroma offset, clamped and mapped.
 pub fn chroma_qp(t: &[u8; 282], qp: i16, offset: i32) -> i16
     requires { ⌜ now t ≡ tables ⌝ }
-    ensures { λ r. ⌜ r ≡ chromaQp 0 offset qp ⌝ }
+    ensures { λ r. ⌜ r ≡ chromaQp eight offset qp ⌝ }
 {
     let i = index(qp as i32, offset);
     if i < 30 {
@@ -59,7 +60,7 @@ pub fn chroma_qp(t: &[u8; 282], qp: i16, offset: i32) -> i16
 
 pub fn thresholds(t: &[u8; 282], qp: i32, offset_a: i32, offset_b: i32) -> Limits
     requires { ⌜ now t ≡ tables ⌝ }
-    ensures { λ r. ⌜ r ≡ thresholdsOf 1 qp «offset_a» «offset_b» ⌝ }
+    ensures { λ r. ⌜ r ≡ thresholdsOf eight qp «offset_a» «offset_b» ⌝ }
 {
     let ia = index(qp, offset_a);
     let alpha = alpha_at(t, ia);

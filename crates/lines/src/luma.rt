@@ -2,6 +2,7 @@
 // one struct would travel as a machine word and be taken apart by shifts.)
 ghost use mathlib.Core.Path.{_≡_};
 ghost use Prim.Native.Nat.{_+_, _*_, _/_};
+ghost use Rattle.lines.specs.Depth.{eight};
 ghost use Rattle.lines.specs.Luma.{line, nudgeOf, innerOf, lumaNormal, strongSide, lumaStrong, normalLine, strongLine};
 use crate::shared::clip3;
 use crate::shared::filter_samples;
@@ -58,7 +59,7 @@ pub fn filter_normal(
     q2: u8,
     q3: u8,
 ) -> Six
-    ensures { λ r. ⌜ r ≡ lumaNormal 255 beta tc0 (line p3 p2 p1 p0 q0 q1 q2 q3) ⌝ }
+    ensures { λ r. ⌜ r ≡ lumaNormal eight beta tc0 (line p3 p2 p1 p0 q0 q1 q2 q3) ⌝ }
 {
     let flat_p = near(p2, p0, beta);
     let flat_q = near(q2, q0, beta);
@@ -152,7 +153,7 @@ pub fn normal_line(
     q2: u8,
     q3: u8,
 ) -> Six
-    ensures { λ r. ⌜ r ≡ normalLine 255 alpha beta tc0 (line p3 p2 p1 p0 q0 q1 q2 q3) ⌝ }
+    ensures { λ r. ⌜ r ≡ normalLine eight alpha beta tc0 (line p3 p2 p1 p0 q0 q1 q2 q3) ⌝ }
 {
     if filter_samples(alpha, beta, p1, p0, q0, q1) {
         return filter_normal(beta, tc0, p3, p2, p1, p0, q0, q1, q2, q3);

@@ -4,6 +4,7 @@ ghost use mathlib.Core.Path.{_≡_};
 ghost use Prim.Native.Nat.{_+_, _*_, _<_};
 ghost use lib.ListN.{length};
 ghost use Rattle.laws.specs.Places.{places, puts};
+ghost use Rattle.lines.specs.Depth.{eight};
 ghost use Rattle.lines.specs.Luma.{normalLine, strongLine, lumaLine};
 ghost use Rattle.lines.specs.Chroma.{normalShort, strongShort, chromaLine};
 ghost use Rattle.lines.specs.Planes.{fromSix, fromTwo, lumaAt, chromaAt};
@@ -41,7 +42,7 @@ fn put_two(plane: &mut [u8], at: usize, step: usize, r: Two)
 // Luma at strengths 1 to 3.
 pub fn luma_normal(plane: &mut [u8], at: usize, step: usize, alpha: u8, beta: u8, tc0: u8)
     requires { ⌜ at + 7 * step < length (now plane) ⌝ }
-    ensures { λ _. ⌜ now (plane .exit) ≡ lumaAt (normalLine 255 alpha beta tc0) at step (now (plane .entry)) ⌝ }
+    ensures { λ _. ⌜ now (plane .exit) ≡ lumaAt (normalLine eight alpha beta tc0) at step (now (plane .entry)) ⌝ }
 {
     let b = at + step;
     let c = b + step;
@@ -104,7 +105,7 @@ pub fn filter_luma_line(
     tc0: u8,
 )
     requires { ⌜ at + 7 * step < length (now plane) ⌝ }
-    ensures { λ _. ⌜ now (plane .exit) ≡ lumaAt (lumaLine 255 bs alpha beta tc0) at step (now (plane .entry)) ⌝ }
+    ensures { λ _. ⌜ now (plane .exit) ≡ lumaAt (lumaLine eight bs alpha beta tc0) at step (now (plane .entry)) ⌝ }
 {
     if bs == 0 {
         return;
@@ -119,7 +120,7 @@ pub fn filter_luma_line(
 // Chroma at strengths 1 to 3.
 pub fn chroma_normal(plane: &mut [u8], at: usize, step: usize, alpha: u8, beta: u8, tc0: u8)
     requires { ⌜ at + 3 * step < length (now plane) ⌝ }
-    ensures { λ _. ⌜ now (plane .exit) ≡ chromaAt (normalShort 255 alpha beta tc0) at step (now (plane .entry)) ⌝ }
+    ensures { λ _. ⌜ now (plane .exit) ≡ chromaAt (normalShort eight alpha beta tc0) at step (now (plane .entry)) ⌝ }
 {
     let b = at + step;
     let c = b + step;
@@ -151,7 +152,7 @@ pub fn filter_chroma_line(
     tc0: u8,
 )
     requires { ⌜ at + 3 * step < length (now plane) ⌝ }
-    ensures { λ _. ⌜ now (plane .exit) ≡ chromaAt (chromaLine 255 bs alpha beta tc0) at step (now (plane .entry)) ⌝ }
+    ensures { λ _. ⌜ now (plane .exit) ≡ chromaAt (chromaLine eight bs alpha beta tc0) at step (now (plane .entry)) ⌝ }
 {
     if bs == 0 {
         return;

@@ -5,6 +5,7 @@ ghost use Prim.Native.Nat.{_+_, _*_, _/_};
 ghost use lib.Dec.{ltb};
 ghost use lib.IntN.{pos, _+ℤ_, _-ℤ_};
 ghost use Rattle.laws.specs.Clip.{clip3, clip1, dist};
+ghost use Rattle.lines.specs.Depth.{eight};
 ghost use Rattle.lines.specs.Filter.{filterSamples, deltaOf};
 
 // The samples beside the edge, which every filter can change.
@@ -26,7 +27,7 @@ pub fn clip3(lo: i16, hi: i16, v: i16) -> i16
 }
 
 pub fn clip1(v: i16) -> u8
-    ensures { λ r. ⌜ r ≡ clip1 255 v ⌝ }
+    ensures { λ r. ⌜ r ≡ clip1 (eight .top) v ⌝ }
 {
     let kept = clip3(0, 255, v);
     kept as u8
@@ -58,7 +59,7 @@ pub fn delta(tc0: u8, more: u8, p1: u8, p0: u8, q0: u8, q1: u8) -> i16
 
 // p0 and q0 at strengths 1 to 3.
 pub fn moved(tc0: u8, more: u8, p1: u8, p0: u8, q0: u8, q1: u8) -> Two
-    ensures { λ r. ⌜ (r .p0 ≡ clip1 255 (pos p0 +ℤ deltaOf (tc0 + more) p1 p0 q0 q1)) × (r .q0 ≡ clip1 255 (pos q0 -ℤ deltaOf (tc0 + more) p1 p0 q0 q1)) ⌝ }
+    ensures { λ r. ⌜ (r .p0 ≡ clip1 (eight .top) (pos p0 +ℤ deltaOf (tc0 + more) p1 p0 q0 q1)) × (r .q0 ≡ clip1 (eight .top) (pos q0 -ℤ deltaOf (tc0 + more) p1 p0 q0 q1)) ⌝ }
 {
     let d = delta(tc0, more, p1, p0, q0, q1);
     let p = p0 as i16 + d;

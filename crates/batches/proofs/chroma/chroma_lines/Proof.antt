@@ -6,6 +6,7 @@ use native.Mathlib.Omega.{arith}
 use lib.ListN.{length, getD}
 use Rattle.laws.specs.Loop.{upTo}
 use Rattle.laws.proofs.Loop.{loops, mul-below, upTo-more, upTo-end}
+use Rattle.lines.specs.Depth.{eight}
 use Rattle.lines.specs.Planes.{chromaAt}
 use Rattle.batches.specs.Lines.{chromaWith, shortLines}
 use Rattle.batches.proofs.EdgeLines.{short-still}
@@ -14,7 +15,7 @@ use Rattle.batches.proofs.chroma.chroma_lines.Tie as tie
 
 abbrev Inv : tie.InvT-loop
 Inv plane₀ at along step l bs k₀ plane k =
-    (k ≤ 8) × (length plane ≡ length plane₀) × (plane ≡ upTo k (λ j. chromaAt (chromaWith l (getD bs (j / 2) 0)) (at + j * along) step) plane₀)
+    (k ≤ 8) × (length plane ≡ length plane₀) × (plane ≡ upTo k (λ j. chromaAt (chromaWith eight l (getD bs (j / 2) 0)) (at + j * along) step) plane₀)
 
 abbrev μ : tie.MeasureT-loop
 μ plane₀ at along step l bs k₀ plane k = 8 - k
@@ -22,7 +23,7 @@ abbrev μ : tie.MeasureT-loop
 returns : tie.Need-returns Inv μ
 returns c =
     let a = c .before .before .before .args in
-    sym (short-still (a .s) (a .l) (a .at) (a .along) (a .step) (a .plane .now) (sym (c .before .is-still .ensures) ∙ c .if1 .taken))
+    sym (short-still eight (a .s) (a .l) (a .at) (a .along) (a .step) (a .plane .now) (sym (c .before .is-still .ensures) ∙ c .if1 .taken))
 
 bound : (c : tie.In-loop Inv μ) → let a = c .before .before .before .before .before .args .along in c .before .loop .k * a ≤ 7 * a
 bound c = mul-below _ 8 _ (omega arith)

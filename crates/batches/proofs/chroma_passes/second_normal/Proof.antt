@@ -5,6 +5,7 @@ use borrow.Author.Tests.{not-true}
 use lib.ListN.{length, getD}
 use Rattle.laws.specs.Loop.{upTo}
 use Rattle.laws.proofs.Loop.{loops}
+use Rattle.lines.specs.Depth.{eight}
 use Rattle.lines.specs.Chroma.{normalShort}
 use Rattle.lines.specs.Planes.{chromaAt}
 use Rattle.batches.specs.Lanes.{isWeak}
@@ -14,7 +15,7 @@ use Rattle.batches.proofs.chroma_passes.second_normal.Statement.{statem
 use Rattle.batches.proofs.chroma_passes.second_normal.Tie as tie
 
 abbrev Inv : tie.InvT-loop
-Inv al tc be r₀ k₀ r k = (k ≤ 16) × (length r ≡ 128) × (r ≡ upTo k (λ j. chromaAt (normalShort 255 (getD al j 0) (getD be j 0) (getD tc j 0)) (64 + j) 16) r₀)
+Inv al tc be r₀ k₀ r k = (k ≤ 16) × (length r ≡ 128) × (r ≡ upTo k (λ j. chromaAt (normalShort eight (getD al j 0) (getD be j 0) (getD tc j 0)) (64 + j) 16) r₀)
 
 abbrev μ : tie.MeasureT-loop
 μ al tc be r₀ k₀ r k = 16 - k
@@ -23,7 +24,7 @@ returns : tie.Need-returns Inv μ
 returns c =
     let a = c .before .before .args in
     let e = sym (c .before .any-weak .ensures) ∙ not-true _ (c .if1 .taken) in
-    sym (short-idle (a .s) (a .l) (a .m) lower isWeak refl e (a .t))
+    sym (short-idle eight (a .s) (a .l) (a .m) lower isWeak refl e (a .t))
 
 returns-2 : tie.Need-returns-2 Inv μ
 returns-2 c =
@@ -35,9 +36,9 @@ returns-2 c =
     let x = w .before in
     let y = x .before in
     let a = y .before .before .before .args in
-    let e : c .before .loop .r ≡ upTo 16 (λ j. chromaAt (normalShort 255 (getD (w .two-each .result) j 0) (getD (b .eight-each .result) j 0) (getD (t .two-each2 .result) j 0)) (64 + j) 16) (a .t) = search loops in
+    let e : c .before .loop .r ≡ upTo 16 (λ j. chromaAt (normalShort eight (getD (w .two-each .result) j 0) (getD (b .eight-each .result) j 0) (getD (t .two-each2 .result) j 0)) (64 + j) 16) (a .t) = search loops in
     e
-    ∙ short-weak (a .s) (a .l) (a .m) lower (y .weak-row .ensures) (x .weak-row2 .ensures) (w .two-each .ensures) (q .tc-row .ensures) (p .tc-row2 .ensures) (t .two-each2 .ensures)
+    ∙ short-weak eight (a .s) (a .l) (a .m) lower (y .weak-row .ensures) (x .weak-row2 .ensures) (w .two-each .ensures) (q .tc-row .ensures) (p .tc-row2 .ensures) (t .two-each2 .ensures)
     (b .eight-each .ensures) (a .t)
 
 pub second-normal-spec : {M : Type 1} → statement M

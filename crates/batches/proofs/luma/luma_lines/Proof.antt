@@ -2,6 +2,7 @@
 -- Assumes nothing.
 use mathlib.Core.Path.{sym, _∙_}
 use borrow.Author.Needs.{needs}
+use Rattle.lines.specs.Depth.{eight}
 use Rattle.batches.proofs.EdgeLines.{long-still, long-edge}
 use Rattle.batches.proofs.luma.luma_lines.Statement.{statement}
 use Rattle.batches.proofs.luma.luma_lines.Tie as tie
@@ -9,7 +10,7 @@ use Rattle.batches.proofs.luma.luma_lines.Tie as tie
 returns : tie.Need-returns
 returns c =
     let a = c .before .before .before .args in
-    sym (long-still (a .s) (a .l) (a .at) (a .along) (a .step) (a .plane .now) (sym (c .before .is-still .ensures) ∙ c .if1 .taken))
+    sym (long-still eight (a .s) (a .l) (a .at) (a .along) (a .step) (a .plane .now) (sym (c .before .is-still .ensures) ∙ c .if1 .taken))
 
 returns-2 : tie.Need-returns-2
 returns-2 c =
@@ -19,7 +20,7 @@ returns-2 c =
     let s = t .before .before .before .before .before in
     let a = s .args in
     let e = rw (t .take .ensures) at (b .block .ensures) in
-    rw e at (w .give .ensures) ∙ long-edge (a .s) (a .l) (a .at) (a .along) (a .step) (a .plane .now) (s .pre .1) (s .pre .0)
+    rw e at (w .give .ensures) ∙ long-edge eight (a .s) (a .l) (a .at) (a .along) (a .step) (a .plane .now) (s .pre .1) (s .pre .0)
 
 pub luma-lines-spec : {M : Type 1} → statement M
 luma-lines-spec =

@@ -5,6 +5,7 @@ use borrow.Author.Tests.{not-true}
 use lib.ListN.{length, getD}
 use Rattle.laws.specs.Loop.{upTo}
 use Rattle.laws.proofs.Loop.{loops}
+use Rattle.lines.specs.Depth.{eight}
 use Rattle.lines.specs.Luma.{normalLine}
 use Rattle.lines.specs.Planes.{lumaAt}
 use Rattle.batches.specs.Lanes.{isWeak}
@@ -13,7 +14,7 @@ use Rattle.batches.proofs.luma_passes.normal.Statement.{statement}
 use Rattle.batches.proofs.luma_passes.normal.Tie as tie
 
 abbrev Inv : tie.InvT-loop
-Inv al tc beta r₀ k₀ r k = (k ≤ 16) × (length r ≡ 128) × (r ≡ upTo k (λ j. lumaAt (normalLine 255 (getD al j 0) beta (getD tc j 0)) j 16) r₀)
+Inv al tc beta r₀ k₀ r k = (k ≤ 16) × (length r ≡ 128) × (r ≡ upTo k (λ j. lumaAt (normalLine eight (getD al j 0) beta (getD tc j 0)) j 16) r₀)
 
 abbrev μ : tie.MeasureT-loop
 μ al tc beta r₀ k₀ r k = 16 - k
@@ -22,7 +23,7 @@ returns : tie.Need-returns Inv μ
 returns c =
     let a = c .before .before .args in
     let e = sym (c .before .any-weak .ensures) ∙ not-true _ (c .if1 .taken) in
-    sym (long-idle (a .s) (a .l) isWeak refl e (a .t))
+    sym (long-idle eight (a .s) (a .l) isWeak refl e (a .t))
 
 returns-2 : tie.Need-returns-2 Inv μ
 returns-2 c =
@@ -31,8 +32,8 @@ returns-2 c =
     let w = p .before in
     let x = w .before in
     let a = x .before .before .before .args in
-    let e : c .before .loop .r ≡ upTo 16 (λ j. lumaAt (normalLine 255 (getD (w .four-each .result) j 0) (a .l .beta) (getD (t .four-each2 .result) j 0)) j 16) (a .t) = search loops in
-    e ∙ long-weak (a .s) (a .l) (x .weak-row .ensures) (w .four-each .ensures) (p .tc-row .ensures) (t .four-each2 .ensures) (a .t)
+    let e : c .before .loop .r ≡ upTo 16 (λ j. lumaAt (normalLine eight (getD (w .four-each .result) j 0) (a .l .beta) (getD (t .four-each2 .result) j 0)) j 16) (a .t) = search loops in
+    e ∙ long-weak eight (a .s) (a .l) (x .weak-row .ensures) (w .four-each .ensures) (p .tc-row .ensures) (t .four-each2 .ensures) (a .t)
 
 pub normal-spec : {M : Type 1} → statement M
 normal-spec =

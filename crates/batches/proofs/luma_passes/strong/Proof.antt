@@ -5,6 +5,7 @@ use borrow.Author.Tests.{not-true}
 use lib.ListN.{length, getD}
 use Rattle.laws.specs.Loop.{upTo}
 use Rattle.laws.proofs.Loop.{loops}
+use Rattle.lines.specs.Depth.{eight}
 use Rattle.lines.specs.Luma.{strongLine}
 use Rattle.lines.specs.Planes.{lumaAt}
 use Rattle.batches.specs.Lanes.{isStrong}
@@ -22,7 +23,7 @@ returns : tie.Need-returns Inv μ
 returns c =
     let a = c .before .before .args in
     let e = sym (c .before .any-strong .ensures) ∙ not-true _ (c .if1 .taken) in
-    sym (long-idle (a .s) (a .l) isStrong refl e (a .t))
+    sym (long-idle eight (a .s) (a .l) isStrong refl e (a .t))
 
 returns-2 : tie.Need-returns-2 Inv μ
 returns-2 c =
@@ -30,7 +31,7 @@ returns-2 c =
     let x = w .before in
     let a = x .before .before .before .args in
     let e : c .before .loop .r ≡ upTo 16 (λ j. lumaAt (strongLine (getD (w .four-each .result) j 0) (a .l .beta)) j 16) (a .t) = search loops in
-    e ∙ long-strong (a .s) (a .l) (x .strong-row .ensures) (w .four-each .ensures) (a .t)
+    e ∙ long-strong eight (a .s) (a .l) (x .strong-row .ensures) (w .four-each .ensures) (a .t)
 
 pub strong-spec : {M : Type 1} → statement M
 strong-spec =

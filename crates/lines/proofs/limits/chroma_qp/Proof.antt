@@ -13,13 +13,14 @@ use Rattle.laws.specs.Clip.{clip3, clip1}
 use Rattle.laws.proofs.Clip.{clip3-nonneg}
 use Rattle.laws.proofs.Num.{int, cast, cast-ok, nat-reads}
 use Rattle.laws.proofs.Table.{at-most}
+use Rattle.lines.specs.Depth.{eight}
 use Rattle.lines.specs.Tables.{qpcs}
 use Rattle.lines.specs.Thresholds.{indexOf, qpcOf, chromaQp}
 use Rattle.lines.proofs.limits.chroma_qp.Statement.{statement}
 use Rattle.lines.proofs.limits.chroma_qp.Tie as tie
 
 -- QPC by the index
-by-index : (offset qp : ℤ) → chromaQp 0 offset qp ≡ qpcOf (pos (indexOf qp offset))
+by-index : (offset qp : ℤ) → chromaQp eight offset qp ≡ qpcOf (pos (indexOf qp offset))
 unfolding chromaQp indexOf clip1
 by-index offset qp = ap qpcOf (sym (pos-natAbs (clip3 (pos 0) (pos 51) (qp +ℤ offset)) (clip3-nonneg 51 (qp +ℤ offset))))
 

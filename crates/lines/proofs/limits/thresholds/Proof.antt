@@ -7,6 +7,7 @@ use Prim.Native.Nat.{ℕ, _*_}
 use native.Mathlib.Nat.{mul-one}
 use lib.IntN.{ℤ}
 use mir.Facts.{toZ-ofZ}
+use Rattle.lines.specs.Depth.{eight}
 use Rattle.lines.specs.Tables.{alphaAt, betaAt, tc0At}
 use Rattle.lines.specs.Thresholds.{indexOf, alphaOf, betaOf, tc0Of}
 use Rattle.lines.specs.Inner.{thresholdsOf}
@@ -21,18 +22,18 @@ scaled f p q = p ∙ ap f q ∙ sym (mul-one _)
 ia : (c : tie.After-index) → c .index .result ≡ indexOf (c .before .args .qp) (c .before .args .offset-a)
 ia c = let f = c .before .fits in c .index .ensures .0 ∙ (λ i. indexOf (toZ-ofZ (f .qp) i) (toZ-ofZ (f .offset-a) i))
 
-alpha : (c : tie.After-alpha-at) → let s = c .before .before in c .alpha-at .result ≡ alphaOf 1 (s .args .qp) (s .args .offset-a)
+alpha : (c : tie.After-alpha-at) → let s = c .before .before in c .alpha-at .result ≡ alphaOf eight (s .args .qp) (s .args .offset-a)
 alpha c = scaled alphaAt (c .alpha-at .ensures) (ia (c .before))
 
-tc : (c : tie.After-alpha-at) (k : ℕ) {v : ℕ} → v ≡ tc0At (c .before .index .result) k → let s = c .before .before in v ≡ tc0Of 1 (s .args .qp) (s .args .offset-a) k
+tc : (c : tie.After-alpha-at) (k : ℕ) {v : ℕ} → v ≡ tc0At (c .before .index .result) k → let s = c .before .before in v ≡ tc0Of eight (s .args .qp) (s .args .offset-a) k
 tc c k e = scaled (λ (i : ℕ). tc0At i k) e (ia (c .before))
 
-beta : (c : tie.After-beta-at) → let s = c .before .before .before .before .before in c .beta-at .result ≡ betaOf 1 (s .args .qp) (s .args .offset-b)
+beta : (c : tie.After-beta-at) → let s = c .before .before .before .before .before in c .beta-at .result ≡ betaOf eight (s .args .qp) (s .args .offset-b)
 beta c =
     let f = c .before .before .before .before .before .fits in
     scaled betaAt (c .beta-at .ensures) (c .before .index2 .ensures .0 ∙ (λ i. indexOf (toZ-ofZ (f .qp) i) (toZ-ofZ (f .offset-b) i)))
 
-some : (c : tie.Else1) → let s = c .before .before .before in alphaOf 1 (s .args .qp) (s .args .offset-a) ≡ 0 → ⊥
+some : (c : tie.Else1) → let s = c .before .before .before in alphaOf eight (s .args .qp) (s .args .offset-a) ≡ 0 → ⊥
 some c e = c .if1 .left (alpha (c .before) ∙ e)
 
 returns : tie.Need-returns

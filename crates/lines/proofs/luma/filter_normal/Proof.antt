@@ -8,6 +8,7 @@ use lib.Dec.{lit≤}
 use mir.Val.{boolByte}
 use lib.IntN.{pos, _+ℤ_, _-ℤ_}
 use Rattle.laws.specs.Clip.{clip1}
+use Rattle.lines.specs.Depth.{eight}
 use Rattle.lines.specs.Filter.{deltaOf}
 use Rattle.lines.specs.Luma.{one, innerOf, lumaNormal}
 use Rattle.lines.proofs.luma.filter_normal.Statement.{statement}
@@ -35,8 +36,8 @@ returns c =
     λ i. record {
       p2 = a .p2;
       p1 = (c .before .inner .ensures ∙ ap (λ (b : Bool). innerOf b (a .tc0) (a .p2) (a .p1) (a .p0) (a .q0)) p) i;
-      p0 = (m .moved .ensures .0 ∙ (λ j. clip1 255 (pos (a .p0) +ℤ deltaOf (k j) (a .p1) (a .p0) (a .q0) (a .q1)))) i;
-      q0 = (m .moved .ensures .1 ∙ (λ j. clip1 255 (pos (a .q0) -ℤ deltaOf (k j) (a .p1) (a .p0) (a .q0) (a .q1)))) i;
+      p0 = (m .moved .ensures .0 ∙ (λ j. clip1 (eight .top) (pos (a .p0) +ℤ deltaOf (k j) (a .p1) (a .p0) (a .q0) (a .q1)))) i;
+      q0 = (m .moved .ensures .1 ∙ (λ j. clip1 (eight .top) (pos (a .q0) -ℤ deltaOf (k j) (a .p1) (a .p0) (a .q0) (a .q1)))) i;
       q1 = (c .inner2 .ensures ∙ ap (λ (b : Bool). innerOf b (a .tc0) (a .q2) (a .q1) (a .p0) (a .q0)) q) i;
       q2 = a .q2;
     }

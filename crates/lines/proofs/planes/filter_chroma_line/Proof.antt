@@ -2,6 +2,7 @@
 use borrow.Author.Needs.{needs}
 use mathlib.Core.Path.{sym, _∙_}
 use native.Mathlib.Omega.{arith}
+use Rattle.lines.specs.Depth.{eight}
 use Rattle.lines.proofs.OnPlane.{chromaAt-same, chromaAt-kept}
 use Rattle.lines.proofs.Strengths.{chroma-none, chroma-normal, chroma-strong}
 use Rattle.lines.proofs.planes.filter_chroma_line.Statement.{statement}
@@ -10,19 +11,19 @@ use Rattle.lines.proofs.planes.filter_chroma_line.Tie as tie
 returns : tie.Need-returns
 returns c =
     let a = c .before .before .args in
-    sym (chromaAt-kept (a .at) (a .step) (a .plane .now) _ (chroma-none 255 (a .bs) (a .alpha) (a .beta) (a .tc0) (c .if1 .taken)))
+    sym (chromaAt-kept (a .at) (a .step) (a .plane .now) _ (chroma-none eight (a .bs) (a .alpha) (a .beta) (a .tc0) (c .if1 .taken)))
 
 returns-2 : tie.Need-returns-2
 returns-2 c =
     let a = c .before .before .before .before .before .before .before .args in
     c .before .before .chroma-normal .ensures
-    ∙ sym (chromaAt-same (a .at) (a .step) (a .plane .now) _ _ (chroma-normal 255 (a .bs) (a .alpha) (a .beta) (a .tc0) (λ e. omega arith) (omega arith)))
+    ∙ sym (chromaAt-same (a .at) (a .step) (a .plane .now) _ _ (chroma-normal eight (a .bs) (a .alpha) (a .beta) (a .tc0) (λ e. omega arith) (omega arith)))
 
 returns-3 : tie.Need-returns-3
 returns-3 c =
     let a = c .before .before .before .before .before .before .before .args in
     c .before .before .chroma-strong .ensures
-    ∙ sym (chromaAt-same (a .at) (a .step) (a .plane .now) _ _ (chroma-strong 255 (a .bs) (a .alpha) (a .beta) (a .tc0) (omega arith)))
+    ∙ sym (chromaAt-same (a .at) (a .step) (a .plane .now) _ _ (chroma-strong eight (a .bs) (a .alpha) (a .beta) (a .tc0) (omega arith)))
 
 pub filter-chroma-line-spec : {M : Type 1} → statement M
 filter-chroma-line-spec =

@@ -2,6 +2,7 @@
 use borrow.Author.Needs.{needs}
 use mathlib.Core.Path.{sym, _∙_}
 use native.Mathlib.Omega.{arith}
+use Rattle.lines.specs.Depth.{eight}
 use Rattle.lines.proofs.OnPlane.{lumaAt-same, lumaAt-kept}
 use Rattle.lines.proofs.Strengths.{luma-none, luma-normal, luma-strong}
 use Rattle.lines.proofs.planes.filter_luma_line.Statement.{statement}
@@ -10,19 +11,19 @@ use Rattle.lines.proofs.planes.filter_luma_line.Tie as tie
 returns : tie.Need-returns
 returns c =
     let a = c .before .before .args in
-    sym (lumaAt-kept (a .at) (a .step) (a .plane .now) _ (luma-none 255 (a .bs) (a .alpha) (a .beta) (a .tc0) (c .if1 .taken)))
+    sym (lumaAt-kept (a .at) (a .step) (a .plane .now) _ (luma-none eight (a .bs) (a .alpha) (a .beta) (a .tc0) (c .if1 .taken)))
 
 returns-2 : tie.Need-returns-2
 returns-2 c =
     let a = c .before .before .before .before .before .before .before .args in
     c .before .before .luma-normal .ensures
-    ∙ sym (lumaAt-same (a .at) (a .step) (a .plane .now) _ _ (luma-normal 255 (a .bs) (a .alpha) (a .beta) (a .tc0) (λ e. omega arith) (omega arith)))
+    ∙ sym (lumaAt-same (a .at) (a .step) (a .plane .now) _ _ (luma-normal eight (a .bs) (a .alpha) (a .beta) (a .tc0) (λ e. omega arith) (omega arith)))
 
 returns-3 : tie.Need-returns-3
 returns-3 c =
     let a = c .before .before .before .before .before .before .before .args in
     c .before .before .luma-strong .ensures
-    ∙ sym (lumaAt-same (a .at) (a .step) (a .plane .now) _ _ (luma-strong 255 (a .bs) (a .alpha) (a .beta) (a .tc0) (omega arith)))
+    ∙ sym (lumaAt-same (a .at) (a .step) (a .plane .now) _ _ (luma-strong eight (a .bs) (a .alpha) (a .beta) (a .tc0) (omega arith)))
 
 pub filter-luma-line-spec : {M : Type 1} → statement M
 filter-luma-line-spec =

@@ -7,6 +7,7 @@ use lib.IntN.{natAbs}
 use mir.Syntax.{w16}
 use Rattle.laws.specs.Clip.{clip1}
 use Rattle.laws.proofs.Num.{Num, byte, returned, add, add-ok, sub, sub-ok}
+use Rattle.lines.specs.Depth.{eight}
 use Rattle.lines.specs.Filter.{deltaOf}
 use Rattle.lines.proofs.Steps.{delta-abs}
 use Rattle.lines.proofs.shared.moved.Statement.{statement}
@@ -27,7 +28,7 @@ q0 c = byte (c .before .fits .q0) tt
 returns : tie.Need-returns
 returns c =
     let s = c .before .before in
-    (c .before .clip1 .ensures ∙ ap (clip1 255) (add (p0 s) (d s) tt .reads), c .clip12 .ensures ∙ ap (clip1 255) (sub (q0 s) (d s) tt .reads))
+    (c .before .clip1 .ensures ∙ ap (clip1 (eight .top)) (add (p0 s) (d s) tt .reads), c .clip12 .ensures ∙ ap (clip1 (eight .top)) (sub (q0 s) (d s) tt .reads))
 
 pub moved-spec : {M : Type 1} → statement M
 moved-spec =

@@ -6,6 +6,7 @@ use native.Mathlib.Omega.{arith}
 use lib.ListN.{getD}
 use Rattle.laws.specs.Places.{Plane}
 use Rattle.laws.proofs.Loop.{upTo-same}
+use Rattle.lines.specs.Depth.{eight}
 use Rattle.lines.specs.Planes.{lumaAt, chromaAt}
 use Rattle.batches.specs.Lines.{lumaWith, chromaWith, longLines, shortLines}
 use Rattle.batches.specs.declared.lanes.Thresholds.{Thresholds}
@@ -23,17 +24,17 @@ of-four bs (suc (suc (suc (suc q)))) h = absurd (none h)
     none h = omega arith
 
 module _ (bs : ℕ → ℕ) (l : Thresholds) (at along step : ℕ) (s : Plane) where
-  pub long-segments : longLines (fourOf bs) l at along step s ≡ lumaEdge (lumaWith l) bs at along step s
+  pub long-segments : longLines eight (fourOf bs) l at along step s ≡ lumaEdge (lumaWith eight l) bs at along step s
   unfolding longLines lumaEdge
-  long-segments = upTo-same 16 _ _ s (λ k t h. λ i. lumaAt (lumaWith l (of-four bs (k / 4) (omega arith) i)) (at + k * along) step t)
+  long-segments = upTo-same 16 _ _ s (λ k t h. λ i. lumaAt (lumaWith eight l (of-four bs (k / 4) (omega arith) i)) (at + k * along) step t)
 
-  pub short-segments : shortLines (fourOf bs) l at along step s ≡ chromaEdge (chromaWith l) bs at along step s
+  pub short-segments : shortLines eight (fourOf bs) l at along step s ≡ chromaEdge (chromaWith eight l) bs at along step s
   unfolding shortLines chromaEdge
-  short-segments = upTo-same 8 _ _ s (λ k t h. λ i. chromaAt (chromaWith l (of-four bs (k / 2) (omega arith) i)) (at + k * along) step t)
+  short-segments = upTo-same 8 _ _ s (λ k t h. λ i. chromaAt (chromaWith eight l (of-four bs (k / 2) (omega arith) i)) (at + k * along) step t)
 
 -- two chroma edges: the first by the strengths bs and the thresholds l, the second by ds and m
 pub pair-segments : (bs ds : ℕ → ℕ) (l m : Thresholds) (at along step : ℕ) (s : Plane)
-    → shortLines (fourOf ds) m (at + 4 * step) along step (shortLines (fourOf bs) l at along step s)
-    ≡ chromaEdge (chromaWith m) ds (at + 4 * step) along step (chromaEdge (chromaWith l) bs at along step s)
+    → shortLines eight (fourOf ds) m (at + 4 * step) along step (shortLines eight (fourOf bs) l at along step s)
+    ≡ chromaEdge (chromaWith eight m) ds (at + 4 * step) along step (chromaEdge (chromaWith eight l) bs at along step s)
 pair-segments bs ds l m at along step s =
-    short-segments ds m (at + 4 * step) along step _ ∙ ap (chromaEdge (chromaWith m) ds (at + 4 * step) along step) (short-segments bs l at along step s)
+    short-segments ds m (at + 4 * step) along step _ ∙ ap (chromaEdge (chromaWith eight m) ds (at + 4 * step) along step) (short-segments bs l at along step s)

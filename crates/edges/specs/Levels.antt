@@ -2,6 +2,7 @@
 -- handed, and the thresholds of a macroblock's edges: what the code computes before it touches a line.
 use Prim.Native.Nat.{ℕ}
 use lib.IntN.{ℤ}
+use Rattle.lines.specs.Depth.{eight}
 use Rattle.lines.specs.Thresholds.{average, chromaQp}
 use Rattle.lines.specs.Inner.{thresholdsOf}
 use Rattle.lines.specs.declared.limits.Limits.{Limits}
@@ -30,9 +31,9 @@ bothOf bs u v = record { s = fourOf bs; u = u; v = v }
 -- of the left, the top and the inner edges, by the macroblock's QP and those beside and above it
 abbrev pub threeOf : ℤ → ℤ → ℤ → ℤ → ℤ → Three
 threeOf own beside above a b = record {
-  left = numbersOf (thresholdsOf 1 (average beside own) a b);
-  top = numbersOf (thresholdsOf 1 (average above own) a b);
-  inner = numbersOf (thresholdsOf 1 own a b);
+  left = numbersOf (thresholdsOf eight (average beside own) a b);
+  top = numbersOf (thresholdsOf eight (average above own) a b);
+  inner = numbersOf (thresholdsOf eight own a b);
 }
 
 -- of the vertical and of the horizontal edges
@@ -45,5 +46,5 @@ downOf m = record { border = m .top; inside = m .inner }
 abbrev pub levelsOf : ℤ → ℤ → ℤ → ℤ → ℤ → ℤ → Levels
 levelsOf own beside above a b chroma = record {
   luma = threeOf own beside above a b;
-  chroma = threeOf (chromaQp 0 chroma own) (chromaQp 0 chroma beside) (chromaQp 0 chroma above) a b;
+  chroma = threeOf (chromaQp eight chroma own) (chromaQp eight chroma beside) (chromaQp eight chroma above) a b;
 }

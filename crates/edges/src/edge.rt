@@ -4,6 +4,7 @@
 ghost use mathlib.Core.Path.{_≡_};
 ghost use Prim.Native.Nat.{_+_, _*_, _<_, _≤_};
 ghost use lib.ListN.{length};
+ghost use Rattle.lines.specs.Depth.{eight};
 ghost use Rattle.batches.specs.Lines.{Straight, lumaWith, chromaWith};
 ghost use Rattle.edges.specs.Edge.{lumaEdge, chromaEdge};
 ghost use Rattle.edges.specs.Levels.{fourOf, bothOf};
@@ -51,7 +52,7 @@ pub fn luma_edge(
 )
     requires { ⌜ (at + 15 * along + 7 * step < length (now plane)) × (first + 4 ≤ length (now bs)) ⌝ }
     requires { ⌜ Straight 16 along step ⌝ }
-    ensures { λ _. ⌜ now (plane .exit) ≡ lumaEdge (lumaWith l) (after first (entries (now (bs .entry)))) at along step (now (plane .entry)) ⌝ }
+    ensures { λ _. ⌜ now (plane .exit) ≡ lumaEdge (lumaWith eight l) (after first (entries (now (bs .entry)))) at along step (now (plane .entry)) ⌝ }
 {
     let s = four(bs, first);
     luma_lines(plane, at, along, step, s, l);
@@ -68,7 +69,7 @@ pub fn chroma_edge(
     l: Thresholds,
 )
     requires { ⌜ (at + 7 * along + 3 * step < length (now plane)) × (first + 4 ≤ length (now bs)) ⌝ }
-    ensures { λ _. ⌜ now (plane .exit) ≡ chromaEdge (chromaWith l) (after first (entries (now (bs .entry)))) at along step (now (plane .entry)) ⌝ }
+    ensures { λ _. ⌜ now (plane .exit) ≡ chromaEdge (chromaWith eight l) (after first (entries (now (bs .entry)))) at along step (now (plane .entry)) ⌝ }
 {
     let s = four(bs, first);
     chroma_lines(plane, at, along, step, s, l);
@@ -88,8 +89,8 @@ pub fn chroma_edges(
 )
     requires { ⌜ (at + 7 * along + 7 * step < length (now u)) × (at + 7 * along + 7 * step < length (now v)) × (first + 12 ≤ length (now bs)) ⌝ }
     requires { ⌜ Straight 8 along step ⌝ }
-    ensures { λ _. ⌜ now (u .exit) ≡ chromaEdge (chromaWith (cb .inside)) (after (first + 8) (entries (now (bs .entry)))) (at + 4 * step) along step (chromaEdge (chromaWith (cb .border)) (after first (entries (now (bs .entry)))) at along step (now (u .entry))) ⌝ }
-    ensures { λ _. ⌜ now (v .exit) ≡ chromaEdge (chromaWith (cr .inside)) (after (first + 8) (entries (now (bs .entry)))) (at + 4 * step) along step (chromaEdge (chromaWith (cr .border)) (after first (entries (now (bs .entry)))) at along step (now (v .entry))) ⌝ }
+    ensures { λ _. ⌜ now (u .exit) ≡ chromaEdge (chromaWith eight (cb .inside)) (after (first + 8) (entries (now (bs .entry)))) (at + 4 * step) along step (chromaEdge (chromaWith eight (cb .border)) (after first (entries (now (bs .entry)))) at along step (now (u .entry))) ⌝ }
+    ensures { λ _. ⌜ now (v .exit) ≡ chromaEdge (chromaWith eight (cr .inside)) (after (first + 8) (entries (now (bs .entry)))) (at + 4 * step) along step (chromaEdge (chromaWith eight (cr .border)) (after first (entries (now (bs .entry)))) at along step (now (v .entry))) ⌝ }
 {
     let bu = cb.border;
     let bv = cr.border;

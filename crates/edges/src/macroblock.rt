@@ -3,6 +3,7 @@ ghost use mathlib.Core.Path.{_≡_};
 ghost use Prim.Native.Nat.{_+_, _-_, _*_, _<_, _≤_};
 ghost use mathlib.Core.Bool.{true, cond};
 ghost use lib.ListN.{length};
+ghost use Rattle.lines.specs.Depth.{eight};
 ghost use Rattle.batches.specs.Lines.{Straight, lumaWith, chromaWith};
 ghost use Rattle.edges.specs.Edge.{lumaEdge};
 ghost use Rattle.edges.specs.Levels.{acrossOf, downOf};
@@ -29,7 +30,7 @@ fn luma_edge_if(
 )
     requires { ⌜ (on ≡ true → 4 * step ≤ q) × (q + 15 * along + 3 * step < length (now plane)) × (first + 4 ≤ length (now bs)) ⌝ }
     requires { ⌜ Straight 16 along step ⌝ }
-    ensures { λ _. ⌜ now (plane .exit) ≡ cond on (lumaEdge (lumaWith l) (after first (entries (now (bs .entry)))) (q - 4 * step) along step (now (plane .entry))) (now (plane .entry)) ⌝ }
+    ensures { λ _. ⌜ now (plane .exit) ≡ cond on (lumaEdge (lumaWith eight l) (after first (entries (now (bs .entry)))) (q - 4 * step) along step (now (plane .entry))) (now (plane .entry)) ⌝ }
 {
     if on {
         luma_edge(plane, q - 4 * step, along, step, bs, first, l);
@@ -51,7 +52,7 @@ fn luma_way(
 )
     requires { ⌜ (near ≡ true → 4 * step ≤ origin) × (origin + 15 * along + 15 * step < length (now plane)) × (first + 16 ≤ length (now bs)) ⌝ }
     requires { ⌜ Straight 16 along step ⌝ }
-    ensures { λ _. ⌜ now (plane .exit) ≡ lumaWay (lumaWith border) (lumaWith inside) near t8 (after first (entries (now (bs .entry)))) origin along step (now (plane .entry)) ⌝ }
+    ensures { λ _. ⌜ now (plane .exit) ≡ lumaWay (lumaWith eight border) (lumaWith eight inside) near t8 (after first (entries (now (bs .entry)))) origin along step (now (plane .entry)) ⌝ }
 {
     let q1 = origin + 4 * step;
     let q2 = origin + 8 * step;
@@ -96,8 +97,8 @@ fn chroma_way(
 )
     requires { ⌜ (near ≡ true → 2 * step ≤ origin) × (origin + 7 * along + 7 * step < length (now u)) × (origin + 7 * along + 7 * step < length (now v)) × (first + 16 ≤ length (now bs)) ⌝ }
     requires { ⌜ Straight 8 along step ⌝ }
-    ensures { λ _. ⌜ now (u .exit) ≡ chromaWay (chromaWith (cb .border)) (chromaWith (cb .inside)) near (after first (entries (now (bs .entry)))) origin along step (now (u .entry)) ⌝ }
-    ensures { λ _. ⌜ now (v .exit) ≡ chromaWay (chromaWith (cr .border)) (chromaWith (cr .inside)) near (after first (entries (now (bs .entry)))) origin along step (now (v .entry)) ⌝ }
+    ensures { λ _. ⌜ now (u .exit) ≡ chromaWay (chromaWith eight (cb .border)) (chromaWith eight (cb .inside)) near (after first (entries (now (bs .entry)))) origin along step (now (u .entry)) ⌝ }
+    ensures { λ _. ⌜ now (v .exit) ≡ chromaWay (chromaWith eight (cr .border)) (chromaWith eight (cr .inside)) near (after first (entries (now (bs .entry)))) origin along step (now (v .entry)) ⌝ }
 {
     if near {
         chroma_edges(u, v, origin - 2 * step, along, step, bs, first, cb, cr);
@@ -123,7 +124,7 @@ pub fn luma(
 )
     requires { ⌜ (left ≡ true → 4 * 1 ≤ origin) × (top ≡ true → 4 * stride ≤ origin) × (origin + 15 * stride + 15 < length (now plane)) × (first + 32 ≤ length (now bs)) ⌝ }
     requires { ⌜ 16 ≤ stride ⌝ }
-    ensures { λ _. ⌜ now (plane .exit) ≡ lumaBoth (lumaWith (m .left)) (lumaWith (m .top)) (lumaWith (m .inner)) left top t8 (after first (entries (now (bs .entry)))) origin stride (now (plane .entry)) ⌝ }
+    ensures { λ _. ⌜ now (plane .exit) ≡ lumaBoth (lumaWith eight (m .left)) (lumaWith eight (m .top)) (lumaWith eight (m .inner)) left top t8 (after first (entries (now (bs .entry)))) origin stride (now (plane .entry)) ⌝ }
 {
     let l = m.left;
     let t = m.top;
@@ -147,8 +148,8 @@ pub fn chroma(
 )
     requires { ⌜ (left ≡ true → 2 * 1 ≤ origin) × (top ≡ true → 2 * stride ≤ origin) × (origin + 7 * stride + 7 < length (now u)) × (origin + 7 * stride + 7 < length (now v)) × (first + 32 ≤ length (now bs)) ⌝ }
     requires { ⌜ 8 ≤ stride ⌝ }
-    ensures { λ _. ⌜ now (u .exit) ≡ chromaBoth (chromaWith (cb .left)) (chromaWith (cb .top)) (chromaWith (cb .inner)) left top (after first (entries (now (bs .entry)))) origin stride (now (u .entry)) ⌝ }
-    ensures { λ _. ⌜ now (v .exit) ≡ chromaBoth (chromaWith (cr .left)) (chromaWith (cr .top)) (chromaWith (cr .inner)) left top (after first (entries (now (bs .entry)))) origin stride (now (v .entry)) ⌝ }
+    ensures { λ _. ⌜ now (u .exit) ≡ chromaBoth (chromaWith eight (cb .left)) (chromaWith eight (cb .top)) (chromaWith eight (cb .inner)) left top (after first (entries (now (bs .entry)))) origin stride (now (u .entry)) ⌝ }
+    ensures { λ _. ⌜ now (v .exit) ≡ chromaBoth (chromaWith eight (cr .left)) (chromaWith eight (cr .top)) (chromaWith eight (cr .inner)) left top (after first (entries (now (bs .entry)))) origin stride (now (v .entry)) ⌝ }
 {
     let horizontal = first + 16;
     let lu = across(cb);

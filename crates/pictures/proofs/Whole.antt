@@ -13,7 +13,6 @@ use lib.ListN.{length}
 use Rattle.laws.specs.Refusal.{refusal}
 use Rattle.laws.proofs.Cond.{cond-both}
 use Rattle.laws.proofs.Refusal.{Passed, nonzero, passed, skip}
-use Rattle.lines.specs.Depth.{eight}
 use Rattle.edges.specs.Picture.{Planes, Held, held, rowsOf, frameOf}
 use Rattle.edges.specs.declared.Offsets.{Offsets}
 use Rattle.edges.specs.declared.Size.{Size}
@@ -40,7 +39,6 @@ module _ (size : Size) (o : Offsets) (l : Lent) (p : Planes) where
   lengths a b n p′ r = subst (Sized p) (sym (r .leaves)) (cond-both (Sized p) (eqb n 0) (rows-sized (of size o l) p a b) (record { luma = refl; u = refl; v = refl }))
 
   pub bytes : (a b n : ℕ) (p′ : Planes) → Below 255 p → RowOutcome size a b o l p n p′ → Below 255 p′
-  unfolding eight
   bytes a b n p′ h r = subst (Below 255) (sym (r .leaves)) (cond-both (Below 255) (eqb n 0) (rows-below (of size o l) p a b h) h)
 
   -- ---- an empty range that passes checks 1 to 6 is served, whatever the values are, and leaves the planes

@@ -18,7 +18,6 @@ use Rattle.lines.specs.Tables.{alphas, betas, tc0s}
 use Rattle.lines.specs.Thresholds.{average, indexOf}
 use Rattle.lines.specs.Luma.{nudgeOf, innerOf, lumaNormal, normalLine, lumaLine}
 use Rattle.lines.specs.Planes.{lumaAt}
-use Rattle.lines.specs.Depth.{eight}
 use Rattle.edges.specs.Edge.{lumaRule, lumaEdge}
 use Rattle.edges.specs.Macroblock.{lumaWay, lumaBoth}
 use Rattle.edges.specs.Picture.{Planes, planes, lumaOf, flagAt, macroblockAt, stepOf}
@@ -43,7 +42,7 @@ module _ (u v : Plane) (lu : length u ≡ 256) (lv : length v ≡ 256) where
 
   -- ---- sample (15, 15) of luma
   samples : (getD (step 3 (step 1 (step 2 (step 0 start))) .luma) 495 0 ≡ 102) × (getD (step 3 (step 2 (step 1 (step 0 start))) .luma) 495 0 ≡ 103)
-  unfolding band faultLuma macroblockAt lumaOf flagAt upTo eight lumaRule lumaEdge lumaWay lumaBoth lumaAt lumaLine normalLine lumaNormal nudgeOf innerOf deltaOf clip3 clip1 average indexOf alphas betas tc0s
+  unfolding band faultLuma macroblockAt lumaOf flagAt upTo lumaRule lumaEdge lumaWay lumaBoth lumaAt lumaLine normalLine lumaNormal nudgeOf innerOf deltaOf clip3 clip1 average indexOf alphas betas tc0s
   samples = (refl, refl)
 
   -- ---- no earlier check applies to any visit inside the picture

@@ -17,7 +17,6 @@ use Rattle.lines.specs.Tables.{alphas, betas, tc0s}
 use Rattle.lines.specs.Thresholds.{average, indexOf}
 use Rattle.lines.specs.Luma.{nudgeOf, innerOf, lumaNormal, normalLine, lumaLine}
 use Rattle.lines.specs.Planes.{lumaAt}
-use Rattle.lines.specs.Depth.{eight}
 use Rattle.edges.specs.Edge.{lumaRule, lumaEdge}
 use Rattle.edges.specs.Macroblock.{lumaWay, lumaBoth}
 use Rattle.edges.specs.Picture.{Planes, planes, lumaOf, flagAt, macroblockAt, stepOf}
@@ -62,7 +61,7 @@ pairStep = stepOf (heldOf pairGiven)
 
 -- filtering the second changes sample (15, 0)
 pair-moves : pairStep 1 (pairStep 0 pair) ≢ pairStep 0 pair
-unfolding band macroblockAt lumaOf flagAt upTo eight lumaRule lumaEdge lumaWay lumaBoth lumaAt lumaLine normalLine lumaNormal nudgeOf innerOf deltaOf clip3 clip1 average indexOf alphas betas tc0s
+unfolding band macroblockAt lumaOf flagAt upTo lumaRule lumaEdge lumaWay lumaBoth lumaAt lumaLine normalLine lumaNormal nudgeOf innerOf deltaOf clip3 clip1 average indexOf alphas betas tc0s
 pair-moves e = let k : _≡_ {A = ℕ} 101 100 = ap (λ (p : Planes). getD (p .luma) 15 0) e in omega arith
 
 -- filters on the first visit and afterwards only sets marks
@@ -103,7 +102,7 @@ unfolding band
 one-fit = record { luma = refl; cb = refl; cr = refl }
 
 one-moves : stepOf (heldOf oneGiven) 0 one ≢ one
-unfolding band macroblockAt lumaOf flagAt upTo eight lumaRule lumaEdge lumaWay lumaBoth lumaAt lumaLine normalLine lumaNormal nudgeOf innerOf deltaOf clip3 clip1 average indexOf alphas betas tc0s
+unfolding band macroblockAt lumaOf flagAt upTo lumaRule lumaEdge lumaWay lumaBoth lumaAt lumaLine normalLine lumaNormal nudgeOf innerOf deltaOf clip3 clip1 average indexOf alphas betas tc0s
 one-moves e = let k : _≡_ {A = ℕ} 101 100 = ap (λ (p : Planes). getD (p .luma) 3 0) e in omega arith
 
 -- leaves the planes untouched

@@ -2,13 +2,14 @@
 use borrow.Author.Needs.{needs}
 use mathlib.Core.Path.{_≡_, sym, ap, _∙_}
 use mir.Facts.{toZ-ofZ}
+use Rattle.lines.specs.Depth.{eight}
 use Rattle.lines.specs.Inner.{thresholdsOf}
 use Rattle.edges.specs.Levels.{numbersOf}
 use Rattle.edges.proofs.levels.of_edge.Statement.{statement}
 use Rattle.edges.proofs.levels.of_edge.Tie as tie
 
-asked : (c : tie.After-thresholds) → let s = c .before .args in c .thresholds .result ≡ thresholdsOf 1 (s .qp) (s .a) (s .b)
-asked c = let f = c .before .fits in c .thresholds .ensures ∙ (λ i. thresholdsOf 1 (toZ-ofZ (f .qp) i) (toZ-ofZ (f .a) i) (toZ-ofZ (f .b) i))
+asked : (c : tie.After-thresholds) → let s = c .before .args in c .thresholds .result ≡ thresholdsOf eight (s .qp) (s .a) (s .b)
+asked c = let f = c .before .fits in c .thresholds .ensures ∙ (λ i. thresholdsOf eight (toZ-ofZ (f .qp) i) (toZ-ofZ (f .a) i) (toZ-ofZ (f .b) i))
 
 returns : tie.Need-returns
 returns c = ap numbersOf (sym (c .enum-told .given .1) ∙ asked (c .before .before))

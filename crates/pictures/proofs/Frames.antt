@@ -12,7 +12,7 @@ use lib.Dec.{eqb, ltb}
 use lib.ListN.{length}
 use Rattle.laws.proofs.Bools.{or-false, equal, full}
 use Rattle.laws.specs.Refusal.{refusal}
-use Rattle.laws.proofs.Refusal.{Numbered, nonzero, passed, refusal-cut, refusal-left}
+use Rattle.laws.proofs.Refusal.{passes, refusal-cut, refusal-left}
 use Rattle.edges.specs.Picture.{Planes, held, rowsOf}
 use Rattle.edges.specs.Inner.{Room}
 use Rattle.edges.specs.declared.Offsets.{Offsets}
@@ -32,19 +32,15 @@ pub record Good (size : Size) (a b y u v strengths qps t8s : ℕ) : Type 0 where
   pub flag : eqb t8s 0 ≡ false → t8s ≡ size .w * size .h
 
 module _ (size : Size) (a b : ℕ) (o : Offsets) (y u v strengths qps t8s : ℕ) where
-  five : Numbered (rowNumbers size a b o y u v strengths qps t8s)
-  five = (nonzero 1 tt, (nonzero 2 tt, (nonzero 3 tt, (nonzero 4 tt, (nonzero 6 tt, tt)))))
-
   pub good : refusal (rowNumbers size a b o y u v strengths qps t8s) ≡ 0 → Good size a b y u v strengths qps t8s
   good e =
-      let p = passed (rowNumbers size a b o y u v strengths qps t8s) five e in
-      let r = or-false (ltb b a) (ltb (size .h) b) (p .1 .0) in
-      let q = or-false _ _ (p .1 .1 .0) in
+      let r = or-false (ltb b a) (ltb (size .h) b) (passes 2 cs tt e) in
+      let q = or-false _ _ (passes 3 cs tt e) in
       let qq = or-false _ _ (q .0) in
-      let l = or-false _ _ (p .1 .1 .1 .0) in
+      let l = or-false _ _ (passes 4 cs tt e) in
       let ll = or-false _ _ (l .0) in
       record {
-        sides = sized size (p .0);
+        sides = sized size (passes 1 cs tt e);
         order = ltb-false b a (r .0);
         line = ltb-false (size .h) b (r .1);
         luma = equal _ _ (qq .0);
@@ -54,6 +50,9 @@ module _ (size : Size) (a b : ℕ) (o : Offsets) (y u v strengths qps t8s : ℕ)
         qp = equal _ _ (ll .1);
         flag = full t8s (size .w * size .h) (l .1);
       }
+    where
+      cs : List (ℕ × Bool)
+      cs = rowNumbers size a b o y u v strengths qps t8s
 
 module _ (size : Size) (a b y u v strengths qps t8s : ℕ) (g : Good size a b y u v strengths qps t8s) where
   pub room : Room (size .w * size .h) y u v qps t8s strengths
@@ -72,9 +71,6 @@ module _ (size : Size) (a b : ℕ) (o : Offsets) (l : Lent) (p : Planes) where
   abbrev pub lengthChecks : List (ℕ × Bool)
   lengthChecks = rowNumbers size a b o (length (p .luma)) (length (p .u)) (length (p .v)) (length (l .strengths)) (length (l .qps)) (length (l .t8s))
 
-  pub numbered : Numbered lengthChecks
-  numbered = five size a b o (length (p .luma)) (length (p .u)) (length (p .v)) (length (l .strengths)) (length (l .qps)) (length (l .t8s))
-
   abbrev pub first : ℕ
   first = refusal lengthChecks
 
@@ -86,7 +82,7 @@ module _ (size : Size) (a b : ℕ) (o : Offsets) (l : Lent) (p : Planes) where
 
   cut : rowAnswer size a b o p l ≡ cond (eqb first 0) second first
   unfolding rowAnswer
-  cut = refusal-cut lengthChecks (rowValues (size .w) a b l) numbered
+  cut = refusal-cut lengthChecks (rowValues (size .w) a b l) tt
 
   pub refused-first : (n : ℕ) → n ≡ first → (n ≡ 0 → ⊥) → RowOutcome size a b o l p n p
   refused-first n e h = record {
@@ -100,7 +96,7 @@ module _ (size : Size) (a b : ℕ) (o : Offsets) (l : Lent) (p : Planes) where
   -- the answer 0: no check applies
   pub firsts : rowAnswer size a b o p l ≡ 0 → first ≡ 0
   unfolding rowAnswer
-  firsts e = refusal-left lengthChecks (rowValues (size .w) a b l) numbered e
+  firsts e = refusal-left lengthChecks (rowValues (size .w) a b l) tt e
 
   pub seconds : rowAnswer size a b o p l ≡ 0 → second ≡ 0
   seconds e = sym (then (firsts e)) ∙ e

@@ -12,13 +12,13 @@ use lib.Dec.{eqb, ltb}
 use lib.ListN.{length}
 use Rattle.laws.specs.Refusal.{refusal}
 use Rattle.laws.proofs.Cond.{cond-both}
-use Rattle.laws.proofs.Refusal.{Passed, nonzero, passed, skip}
+use Rattle.laws.proofs.Refusal.{passes, skip}
 use Rattle.edges.specs.Picture.{Planes, Held, held, rowsOf, frameOf}
 use Rattle.edges.specs.declared.Offsets.{Offsets}
 use Rattle.edges.specs.declared.Size.{Size}
 use Rattle.edges.proofs.Pictures.{rows-none, rows-join, rows-frame, rows-sized, rows-below, Sized, Below}
 use Rattle.pictures.specs.Filtering.{Lent, over, badFlags, badRange, qpsFrom, rowValues, rowAnswer, RowOutcome, FrameOutcome}
-use Rattle.pictures.proofs.Frames.{good-rows, lengthChecks, numbered, first, second, then, firsts, seconds, done}
+use Rattle.pictures.proofs.Frames.{good-rows, lengthChecks, first, second, then, firsts, seconds, done}
 use Rattle.pictures.proofs.Over.{over-none, over-join}
 use Rattle.pictures.proofs.Ranges.{first-le, from-le}
 
@@ -98,18 +98,24 @@ module _ (size : Size) (o : Offsets) (l : Lent) (p : Planes) where
 
     values : second size a b o l p ≡ 0 → second size b c o l p ≡ 0 → second size a c o l p ≡ 0
     values e f =
-        let s = passed (rowValues (size .w) a b l) (nonzero 7 tt, (nonzero 8 tt, (nonzero 9 tt, tt))) e in
-        let t = passed (rowValues (size .w) b c l) (nonzero 7 tt, (nonzero 8 tt, (nonzero 9 tt, tt))) f in
         sym
-        (skip 7 (flags (s .0) (t .0))
-        (skip 8 (levels (s .1 .0) (t .1 .0))
-        (skip 9 (over-join 4 (32 * (a * size .w)) (32 * (b * size .w)) (32 * (b * size .w)) (32 * (c * size .w)) (l .strengths) (le-refl _) (s .1 .1 .0) (t .1 .1 .0)) refl)))
+        (skip 7 (flags (passes 7 s tt e) (passes 7 t tt f))
+        (skip 8 (levels (passes 8 s tt e) (passes 8 t tt f))
+        (skip 9 (over-join 4 (32 * (a * size .w)) (32 * (b * size .w)) (32 * (b * size .w)) (32 * (c * size .w)) (l .strengths) (le-refl _) (passes 9 s tt e) (passes 9 t tt f)) refl)))
+      where
+        s : List (ℕ × Bool)
+        s = rowValues (size .w) a b l
+
+        t : List (ℕ × Bool)
+        t = rowValues (size .w) b c l
 
     numbers : c ≤ size .h → first size a b o l p ≡ 0 → first size a c o l p ≡ 0
     numbers m e =
-        let s = passed (lengthChecks size a b o l p) (numbered size a b o l p) e in
         let r : badRange size a c ≡ false = rw (le-ltb c a (le-trans h k), le-ltb (size .h) c m) in
-        sym (skip 1 (s .0) (skip 2 r (skip 3 (s .1 .1 .0) (skip 4 (s .1 .1 .1 .0) (skip 6 (s .1 .1 .1 .1 .0) refl)))))
+        sym (skip 1 (passes 1 s tt e) (skip 2 r (skip 3 (passes 3 s tt e) (skip 4 (passes 4 s tt e) (skip 6 (passes 6 s tt e) refl)))))
+      where
+        s : List (ℕ × Bool)
+        s = lengthChecks size a b o l p
 
 pub joined : (size : Size) (o : Offsets) (l : Lent) (p p₁ p₂ : Planes) (a b c : ℕ)
     → RowOutcome size a b o l p 0 p₁ → RowOutcome size b c o l p₁ 0 p₂ → RowOutcome size a c o l p 0 p₂

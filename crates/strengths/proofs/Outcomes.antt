@@ -9,7 +9,7 @@ use borrow.Author.Tests.{eq-eqb, ne-eqb, not-false}
 use lib.Dec.{eqb}
 use lib.ListN.{length}
 use Rattle.laws.specs.Refusal.{refusal}
-use Rattle.laws.proofs.Refusal.{Numbered, nonzero, passed, refusal-cut, refusal-left, refusal-right}
+use Rattle.laws.proofs.Refusal.{passes, refusal-cut, refusal-left}
 use Rattle.motion.specs.Grids.{Grids}
 use Rattle.strengths.specs.Checks.{disagree}
 use Rattle.strengths.specs.Strength.{strengthAt, written}
@@ -28,28 +28,22 @@ use Rattle.strengths.proofs.Passed.{Good, good}
 use Rattle.laws.proofs.Bools.{or-false}
 
 module _ (size : Size) (x y : ℕ) (g : Grids) (n : ℕ) where
-  first-four : Numbered (numbers size x y g n)
-  first-four = (nonzero 1 tt, (nonzero 2 tt, (nonzero 4 tt, (nonzero 5 tt, tt))))
-
-  all : Numbered (checks size x y g n)
-  all = (nonzero 1 tt, (nonzero 2 tt, (nonzero 4 tt, (nonzero 5 tt, (nonzero 7 tt, (nonzero 10 tt, (nonzero 11 tt, tt)))))))
-
   -- ---- what is known once checks 1 to 11 have passed
   pub is-good : refusal (checks size x y g n) ≡ 0 → Good size x y g n
-  is-good e = good size x y g n (refusal-left (numbers size x y g n) (blocks size x y g) first-four e)
+  is-good e = good size x y g n (refusal-left (numbers size x y g n) (blocks size x y g) tt e)
 
   pub agrees : refusal (checks size x y g n) ≡ 0 → disagree (g .inter) (size .w) x y ≡ false
   agrees e =
-      passed (blocks size x y g) (nonzero 7 tt, (nonzero 10 tt, (nonzero 11 tt, tt))) (refusal-right (numbers size x y g n) (blocks size x y g) first-four e) .1 .1 .0
+      passes 11 (checks size x y g n) tt e
 
   -- ---- the answer, by the checks before 12
   answer-cut : (untrue : Bool) → answerOf size x y g untrue n ≡ cond (eqb (refusal (checks size x y g n)) 0) (cond untrue 12 0) (refusal (checks size x y g n))
   unfolding answerOf
-  answer-cut untrue = refusal-cut (checks size x y g n) ((12, untrue) ∷ []) all
+  answer-cut untrue = refusal-cut (checks size x y g n) ((12, untrue) ∷ []) tt
 
   -- the checks may be made in two parts
   pub checks-cut : refusal (checks size x y g n) ≡ cond (eqb (refusal (numbers size x y g n)) 0) (refusal (blocks size x y g)) (refusal (numbers size x y g n))
-  checks-cut = refusal-cut (numbers size x y g n) (blocks size x y g) first-four
+  checks-cut = refusal-cut (numbers size x y g n) (blocks size x y g) tt
 
 module _ (size : Size) (x y : ℕ) (t8 : Bool) (g : Grids) (untrue : Bool) (s : List ℕ) where
   pub refused : (n : ℕ) → n ≡ refusal (checks size x y g (length s)) → (n ≡ 0 → ⊥) → Outcome size x y t8 g untrue s n s

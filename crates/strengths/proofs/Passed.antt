@@ -11,7 +11,7 @@ use lib.ListN.{length}
 use Rattle.laws.proofs.Bools.{and-true, or-false, or-true, equal}
 use Rattle.laws.specs.Refusal.{refusal}
 use Rattle.laws.proofs.Grid.{row-fits}
-use Rattle.laws.proofs.Refusal.{nonzero, passed}
+use Rattle.laws.proofs.Refusal.{passes}
 use Rattle.motion.specs.Grids.{Grids}
 use Rattle.motion.specs.Inner.{Optional, Hold}
 use Rattle.strengths.specs.Blocks.{own}
@@ -34,17 +34,16 @@ pub record Good (size : Size) (x y : ℕ) (g : Grids) (n : ℕ) : Type 0 where
 
 pub good : (size : Size) (x y : ℕ) (g : Grids) (n : ℕ) → refusal (numbers size x y g n) ≡ 0 → Good size x y g n
 good size x y g n e =
-    let p = passed (numbers size x y g n) (nonzero 1 tt, (nonzero 2 tt, (nonzero 4 tt, (nonzero 5 tt, tt)))) e in
-    let o = or-false (leb (size .w) x) (leb (size .h) y) (p .1 .0) in
-    let a = or-false _ _ (p .1 .1 .1 .0) in
+    let o = or-false (leb (size .w) x) (leb (size .h) y) (passes 2 (numbers size x y g n) tt e) in
+    let a = or-false _ _ (passes 5 (numbers size x y g n) tt e) in
     let b = or-false _ _ (a .0) in
     let c = or-false _ _ (b .0) in
     let d = or-false _ _ (c .0) in
     record {
-      sides = sized size (p .0);
+      sides = sized size (passes 1 (numbers size x y g n) tt e);
       column = leb-false (size .w) x (o .0);
       line = leb-false (size .h) y (o .1);
-      strengths = equal _ _ (p .1 .1 .0);
+      strengths = equal _ _ (passes 4 (numbers size x y g n) tt e);
       inters = equal _ _ (d .0);
       counts = equal _ _ (d .1);
       refs = equal _ _ (c .1);

@@ -1,6 +1,6 @@
 -- The earlier checks cut in two, and what is known once those of lengths have passed. Assumes nothing.
 use mathlib.Core.Path.{_≡_}
-use mathlib.Core.Bool.{false, cond, not, _||_}
+use mathlib.Core.Bool.{Bool, false, cond, not, _||_}
 use mathlib.Core.List.{List}
 use Prim.Native.Nat.{ℕ, _+_, _*_, _<_}
 use native.Mathlib.Omega.{arith}
@@ -8,7 +8,7 @@ use borrow.Author.Tests.{leb-false, eqb-true, not-false}
 use lib.Dec.{eqb, leb}
 use lib.ListN.{length}
 use Rattle.laws.specs.Refusal.{refusal}
-use Rattle.laws.proofs.Refusal.{Numbered, nonzero, passed, refusal-cut, refusal-left}
+use Rattle.laws.proofs.Refusal.{passes, refusal-cut, refusal-left}
 use Rattle.laws.proofs.Grid.{index-lt, row-fits}
 use Rattle.edges.specs.Inner.{Room}
 use Rattle.laws.proofs.Bools.{or-false, equal, full}
@@ -31,20 +31,16 @@ pub record Good (d : Given) (ly lu lv lm : ℕ) (r : At) : Type 0 where
   pub marks : lm ≡ d .size .w * d .size .h
 
 module _ (d : Given) (ly lu lv : ℕ) where
-  lengths-numbered : (lm : ℕ) (r : At) → Numbered (numbers d ly lu lv lm r)
-  lengths-numbered lm r = (nonzero 1 tt, (nonzero 2 tt, (nonzero 3 tt, (nonzero 4 tt, (nonzero 6 tt, tt)))))
-
   pub good : (lm : ℕ) (r : At) → refusal (numbers d ly lu lv lm r) ≡ 0 → Good d ly lu lv lm r
   good lm r e =
-      let p = passed (numbers d ly lu lv lm r) (lengths-numbered lm r) e in
-      let place = or-false (leb (d .size .w) (r .0)) (leb (d .size .h) (r .1)) (p .1 .0) in
-      let planes = or-false _ _ (p .1 .1 .0) in
+      let place = or-false (leb (d .size .w) (r .0)) (leb (d .size .h) (r .1)) (passes 2 cs tt e) in
+      let planes = or-false _ _ (passes 3 cs tt e) in
       let two = or-false _ _ (planes .0) in
-      let grids = or-false _ _ (p .1 .1 .1 .0) in
+      let grids = or-false _ _ (passes 4 cs tt e) in
       let lent = or-false _ _ (grids .0) in
       let first = or-false _ _ (lent .0) in
       record {
-        sides = sized (d .size) (p .0);
+        sides = sized (d .size) (passes 1 cs tt e);
         column = leb-false (d .size .w) (r .0) (place .0);
         row = leb-false (d .size .h) (r .1) (place .1);
         luma = equal _ _ (two .0);
@@ -55,18 +51,21 @@ module _ (d : Given) (ly lu lv : ℕ) where
         t8s = full (length (d .t8s)) (d .size .w * d .size .h) (lent .1);
         marks = equal _ _ (grids .1);
       }
+    where
+      cs : List (ℕ × Bool)
+      cs = numbers d ly lu lv lm r
 
   -- those of entries are made where none of those of lengths applies
   pub checks-cut : (ms : List ℕ) (r : At) → let f = numbers d ly lu lv (length ms) r in
       refusal (checks d ly lu lv ms r)
       ≡ cond (eqb (refusal f) 0) (refusal (values (d .size .w) (d .strengths) (d .qps) (d .t8s) ms r)) (refusal f)
   checks-cut ms r =
-      refusal-cut (numbers d ly lu lv (length ms) r) (values (d .size .w) (d .strengths) (d .qps) (d .t8s) ms r) (lengths-numbered (length ms) r)
+      refusal-cut (numbers d ly lu lv (length ms) r) (values (d .size .w) (d .strengths) (d .qps) (d .t8s) ms r) tt
 
   pub all-good : (ms : List ℕ) (r : At) → refusal (checks d ly lu lv ms r) ≡ 0 → Good d ly lu lv (length ms) r
   all-good ms r e =
       good (length ms) r
-      (refusal-left (numbers d ly lu lv (length ms) r) (values (d .size .w) (d .strengths) (d .qps) (d .t8s) ms r) (lengths-numbered (length ms) r) e)
+      (refusal-left (numbers d ly lu lv (length ms) r) (values (d .size .w) (d .strengths) (d .qps) (d .t8s) ms r) tt e)
 
   module _ (lm : ℕ) (r : At) (g : Good d ly lu lv lm r) where
     pub index : r .1 * d .size .w + r .0 < d .size .w * d .size .h

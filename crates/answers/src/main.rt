@@ -46,15 +46,15 @@ fn rise(s: &mut [u8]) {
 fn plain(inter: u8, x: usize, t8: bool, s: &mut [u8]) {
     let mut nnz = [0; 32];
     nnz[13] = 3;
-    let mut mv = [0; 64];
-    mv[44] = 4;
+    let mut mv0 = [0; 64];
+    mv0[44] = 4;
     let n = derive_mb(
         Size { w: 2, h: 1 },
         Plain { x, y: 0, t8 },
         &[inter; 32],
         &nnz,
         &[0; 32],
-        &mv,
+        &mv0,
         &[],
         &[],
         s,

@@ -9,7 +9,7 @@ use Rattle.edges.specs.Picture.{Planes}
 use Rattle.edges.specs.declared.Offsets.{Offsets}
 use Rattle.edges.specs.declared.Size.{Size}
 use Rattle.motion.specs.Grids.{Grids}
-use Rattle.strengths.specs.Calls.{Outcome, untrueKind}
+use Rattle.strengths.specs.Calls.{DeriveOutcome, untrueKind}
 use Rattle.pictures.specs.Filtering.{Lent, RowOutcome}
 use Rattle.strengths.specs.declared.kinds.MbKind.{MbKind}
 use Rattle.visits.specs.Checks.{given}
@@ -25,8 +25,8 @@ pub visit-kept : (size : Size) {o o′ : Offsets} (s q t : List ℕ) (p : State 
 visit-kept size s q t p r n p′ e h = subst (λ (o : Offsets). VisitOutcome (given size o s q t) p r n p′) e h
 
 -- ---- check 12
-pub kind-kept : (size : Size) (x y : ℕ) (g : Grids) {u u′ : Bool} (s : List ℕ) (n : ℕ) (s′ : List ℕ) → u ≡ u′ → Outcome size x y false g u s n s′ → Outcome size x y false g u′ s n s′
-kind-kept size x y g s n s′ e h = subst (λ (u : Bool). Outcome size x y false g u s n s′) e h
+pub kind-kept : (size : Size) (x y : ℕ) (g : Grids) {u u′ : Bool} (s : List ℕ) (n : ℕ) (s′ : List ℕ) → u ≡ u′ → DeriveOutcome size x y false g u s n s′ → DeriveOutcome size x y false g u′ s n s′
+kind-kept size x y g s n s′ e h = subst (λ (u : Bool). DeriveOutcome size x y false g u s n s′) e h
 
 -- a number above 3 is true of no grids; up to 3 it is as true as its kind
 module _ (size : Size) (x y k : ℕ) (g : Grids) where

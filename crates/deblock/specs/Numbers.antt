@@ -22,16 +22,16 @@ abbrev pub offsets : ℤ → ℤ → ℤ → Offsets
 offsets a b c = record { a = a; b = b; chroma = c }
 
 -- a flag is set by any number but 0
-abbrev pub set : ℕ → Bool
-set n = not (eqb n 0)
+abbrev pub isSet : ℕ → Bool
+isSet n = not (eqb n 0)
 
 -- one macroblock with its transform flag
 abbrev pub plain : ℕ → ℕ → ℕ → Plain
-plain x y t8 = record { x = x; y = y; t8 = set t8 }
+plain x y t8 = record { x = x; y = y; t8 = isSet t8 }
 
 -- .. with its three flags
 abbrev pub flagged : ℕ → ℕ → ℕ → ℕ → ℕ → Flagged
-flagged x y flat uniform t8 = record { x = x; y = y; flat = set flat; uniform = set uniform; t8 = set t8 }
+flagged x y flat uniform t8 = record { x = x; y = y; flat = isSet flat; uniform = isSet uniform; t8 = isSet t8 }
 
 -- .. with its kind
 abbrev pub request : ℕ → ℕ → MbKind → Request

@@ -2,13 +2,13 @@
 ghost use mathlib.Core.Path.{_≡_};
 ghost use mathlib.Core.Bool.{false};
 ghost use Rattle.motion.specs.Grids.{grids};
-ghost use Rattle.strengths.specs.Calls.{Outcome, FlagsOutcome, PlainOutcome};
+ghost use Rattle.strengths.specs.Calls.{DeriveOutcome, FlagsOutcome, PlainOutcome};
 ghost use Rattle.deblock.specs.Numbers.{sizeOf, plain, flagged, kindNumber, untrueNumber};
 use edges::Size;
 use strengths::calls::derive_mb;
 use strengths::calls::derive_mb_bs;
 use strengths::calls::derive_mb_kind;
-use strengths::checks::refuse;
+use strengths::checks::refuse_derive;
 use strengths::kinds::Flagged;
 use strengths::kinds::MbKind;
 use strengths::kinds::Plain;
@@ -100,11 +100,11 @@ pub extern "C" fn deblock_strengths_kind<'a>(
     mv1: &'a [i16],
     strengths: &mut [u8],
 ) -> u32
-    ensures { λ n. ⌜ Outcome (sizeOf w h) x y false (grids (now (inter .entry)) (now (nnz .entry)) (now (ref0 .entry)) (now (mv0 .entry)) (now (ref1 .entry)) (now (mv1 .entry))) (untrueNumber (sizeOf w h) x y kind (grids (now (inter .entry)) (now (nnz .entry)) (now (ref0 .entry)) (now (mv0 .entry)) (now (ref1 .entry)) (now (mv1 .entry)))) (now (strengths .entry)) n (now (strengths .exit)) ⌝ }
+    ensures { λ n. ⌜ DeriveOutcome (sizeOf w h) x y false (grids (now (inter .entry)) (now (nnz .entry)) (now (ref0 .entry)) (now (mv0 .entry)) (now (ref1 .entry)) (now (mv1 .entry))) (untrueNumber (sizeOf w h) x y kind (grids (now (inter .entry)) (now (nnz .entry)) (now (ref0 .entry)) (now (mv0 .entry)) (now (ref1 .entry)) (now (mv1 .entry)))) (now (strengths .entry)) n (now (strengths .exit)) ⌝ }
 {
     let size = Size { w, h };
     if 3 < kind {
-        let n = refuse(
+        let n = refuse_derive(
             size,
             x,
             y,

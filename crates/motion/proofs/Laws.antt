@@ -9,20 +9,20 @@ use mir.Facts.{and-yes}
 use Rattle.laws.proofs.Cond.{cond-both}
 use Rattle.motion.specs.Grids.{Grids}
 use Rattle.motion.specs.Inner.{Hold}
-use Rattle.motion.specs.Motion.{first, second, ifUsed, used, mate, paired, mismatched, differ, interStrength, equal, sameMotion}
+use Rattle.motion.specs.Motion.{motion0, motion1, ifUsed, used, mate, paired, mismatched, differ, interStrength, equalMotion, sameMotion}
 use Rattle.laws.specs.Equal.{eqZ}
 use Rattle.motion.specs.declared.blocks.Blk.{Blk}
 use Rattle.motion.specs.declared.blocks.Motion.{Motion}
 use Rattle.motion.proofs.Differ.{by-none, by-one, by-two}
 use Rattle.laws.proofs.Equal.{eqZ-self, eqZ→eq, eqZ-comm}
 use Rattle.motion.proofs.Far.{outside-self, outside-comm}
-use Rattle.motion.proofs.Used.{Short, none, one, two, used-short}
+use Rattle.motion.proofs.UsedList.{AtMostTwo, none, one, two, used-short}
 
 -- ---- a block and itself
 mate-self : (v : ℕ) (a : Motion) → mate v a a ≡ true
 mate-self v a = simp (eqZ-self (a .reference), outside-self 3 (a .x), outside-self v (a .y))
 
-self : (v : ℕ) {l : List Motion} → Short l → mismatched v l l ≡ false
+self : (v : ℕ) {l : List Motion} → AtMostTwo l → mismatched v l l ≡ false
 self v none = sym (by-none v)
 self v (one a) = sym (by-one v a a) ∙ ap not (mate-self v a)
 self v (two a b) = sym (by-two v a b a b) ∙ simp (mate-self v a, mate-self v b)
@@ -32,7 +32,7 @@ unfolding differ
 differ-self v p = self v (used-short p)
 
 -- ---- the same motion
-equal→eq : (a b : Motion) → T (equal a b) → a ≡ b
+equal→eq : (a b : Motion) → T (equalMotion a b) → a ≡ b
 equal→eq a b t =
     let h = and-yes (eqZ (a .reference) (b .reference) && eqZ (a .x) (b .x)) (eqZ (a .y) (b .y)) t in
     let k = and-yes (eqZ (a .reference) (b .reference)) (eqZ (a .x) (b .x)) (h .0) in
@@ -45,26 +45,26 @@ equal→eq a b t =
 pub same-used : (p q : Blk) → T (sameMotion p q) → used p ≡ used q
 unfolding sameMotion used
 same-used p q t =
-    let h = and-yes (equal (first p) (first q)) (equal (second p) (second q)) t in
-    λ i. ifUsed (equal→eq (first p) (first q) (h .0) i) ++ ifUsed (equal→eq (second p) (second q) (h .1) i)
+    let h = and-yes (equalMotion (motion0 p) (motion0 q)) (equalMotion (motion1 p) (motion1 q)) t in
+    λ i. ifUsed (equal→eq (motion0 p) (motion0 q) (h .0) i) ++ ifUsed (equal→eq (motion1 p) (motion1 q) (h .1) i)
 
 pub differ-same : (v : ℕ) (p q : Blk) → T (sameMotion p q) → differ v p q ≡ false
 unfolding differ
 differ-same v p q t = ap (mismatched v (used p)) (sym (same-used p q t)) ∙ self v (used-short p)
 
 -- two blocks of the same motion as a third
-equal-self : (a : Motion) → equal a a ≡ true
+equal-self : (a : Motion) → equalMotion a a ≡ true
 equal-self a = simp (eqZ-self (a .reference), eqZ-self (a .x), eqZ-self (a .y))
 
 pub same-join : (p q f : Blk) → T (sameMotion p f) → T (sameMotion q f) → T (sameMotion p q)
 unfolding sameMotion
 same-join p q f s t =
-    let h = and-yes (equal (first p) (first f)) (equal (second p) (second f)) s in
-    let k = and-yes (equal (first q) (first f)) (equal (second q) (second f)) t in
-    let a = equal→eq (first p) (first f) (h .0) ∙ sym (equal→eq (first q) (first f) (k .0)) in
-    let b = equal→eq (second p) (second f) (h .1) ∙ sym (equal→eq (second q) (second f) (k .1)) in
-    subst (λ (m : Motion). T (equal (first p) m && equal (second p) (second q))) a
-    (subst (λ (m : Motion). T (equal (first p) (first p) && equal (second p) m)) b (rw (equal-self (first p), equal-self (second p)) tt))
+    let h = and-yes (equalMotion (motion0 p) (motion0 f)) (equalMotion (motion1 p) (motion1 f)) s in
+    let k = and-yes (equalMotion (motion0 q) (motion0 f)) (equalMotion (motion1 q) (motion1 f)) t in
+    let a = equal→eq (motion0 p) (motion0 f) (h .0) ∙ sym (equal→eq (motion0 q) (motion0 f) (k .0)) in
+    let b = equal→eq (motion1 p) (motion1 f) (h .1) ∙ sym (equal→eq (motion1 q) (motion1 f) (k .1)) in
+    subst (λ (m : Motion). T (equalMotion (motion0 p) m && equalMotion (motion1 p) (motion1 q))) a
+    (subst (λ (m : Motion). T (equalMotion (motion0 p) (motion0 p) && equalMotion (motion1 p) m)) b (rw (equal-self (motion0 p), equal-self (motion1 p)) tt))
 
 -- ---- two blocks the other way round
 mate-comm : (v : ℕ) (a b : Motion) → mate v a b ≡ mate v b a
@@ -75,7 +75,7 @@ paired-comm v a b c d =
     (λ i. mate-comm v a c i && (mate-comm v b d i && true) || mate-comm v a d i && (mate-comm v b c i && true))
     ∙ ap (λ (t : Bool). mate v c a && (mate v d b && true) || t) (simp and-true (and-comm (mate v d a) (mate v c b)))
 
-turned : (v : ℕ) {l r : List Motion} → Short l → Short r → mismatched v l r ≡ mismatched v r l
+turned : (v : ℕ) {l r : List Motion} → AtMostTwo l → AtMostTwo r → mismatched v l r ≡ mismatched v r l
 unfolding mismatched
 turned v none none = refl
 turned v none (one c) = refl

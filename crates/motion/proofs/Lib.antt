@@ -2,6 +2,6 @@ pub mod Cases
 pub mod Differ
 pub mod Far
 pub mod Laws
-pub mod Read
+pub mod GridParts
 pub mod Refused
-pub mod Used
+pub mod UsedList

@@ -8,10 +8,10 @@ use lib.IntN.{ℤ, pos, negsuc, _-ℤ_}
 use lib.Signed.{ltZ}
 use mir.Syntax.{w16}
 use mir.Val.{toZ, ofZ}
-use Rattle.motion.specs.Cases.{from, none, still, direct, swapped, twice}
+use Rattle.motion.specs.Cases.{moving, noMotion, interBlock, straight, crossed, twice}
 use Rattle.motion.specs.Far.{outside}
-use Rattle.motion.specs.Grids.{joined}
-use Rattle.motion.specs.Motion.{first, ifUsed, used, mate, inOrder, references, mismatched, differ, interStrength}
+use Rattle.motion.specs.Grids.{blockOf}
+use Rattle.motion.specs.Motion.{motion0, ifUsed, used, mate, inOrder, references, mismatched, differ, interStrength}
 use Rattle.motion.specs.Sets.{sameSet}
 use Rattle.motion.specs.declared.blocks.Blk.{Blk}
 use Rattle.motion.specs.declared.blocks.Motion.{Motion}
@@ -36,16 +36,16 @@ not-wrapped = false≢true
 abbrev uncrossed : ℕ → Blk → Blk → Bool
 uncrossed v p q = not (inOrder v (used p) (used q))
 
-pub not-uncrossed : uncrossed 3 direct swapped ≡ differ 3 direct swapped → ⊥
+pub not-uncrossed : uncrossed 3 straight crossed ≡ differ 3 straight crossed → ⊥
 unfolding differ mismatched used outside
 not-uncrossed = true≢false
 
 -- list 1 ignored: second references with vectors apart
 abbrev list0Only : ℕ → Blk → Blk → Bool
-list0Only v p q = mismatched v (ifUsed (first p)) (ifUsed (first q))
+list0Only v p q = mismatched v (ifUsed (motion0 p)) (ifUsed (motion0 q))
 
 pub not-list0-only :
-    list0Only 3 direct (still (from 5 (pos 0)) (from 7 (pos 0))) ≡ differ 3 direct (still (from 5 (pos 0)) (from 7 (pos 0))) → ⊥
+    list0Only 3 straight (interBlock (moving 5 (pos 0)) (moving 7 (pos 0))) ≡ differ 3 straight (interBlock (moving 5 (pos 0)) (moving 7 (pos 0))) → ⊥
 unfolding differ mismatched used outside
 not-list0-only = false≢true
 
@@ -55,7 +55,7 @@ uncounted v [] q = false
 uncounted v (a ∷ p) [] = false
 uncounted v (a ∷ p) (b ∷ q) = not (mate v a b) || uncounted v p q
 
-pub not-uncounted : uncounted 3 (used (still (from 5 (pos 0)) none)) (used direct) ≡ differ 3 (still (from 5 (pos 0)) none) direct → ⊥
+pub not-uncounted : uncounted 3 (used (interBlock (moving 5 (pos 0)) noMotion)) (used straight) ≡ differ 3 (interBlock (moving 5 (pos 0)) noMotion) straight → ⊥
 unfolding differ mismatched used outside
 not-uncounted = false≢true
 
@@ -71,6 +71,6 @@ not-sets-only = false≢true
 abbrev oneCount : ℕ → Blk → Blk → ℕ
 oneCount v p q = cond (q .nz) 2 (cond (differ v p q) 1 0)
 
-pub not-one-count : oneCount 3 (joined true true (from 5 (pos 0)) none) (still (from 5 (pos 0)) none) ≡ interStrength 3 (joined true true (from 5 (pos 0)) none) (still (from 5 (pos 0)) none) → ⊥
+pub not-one-count : oneCount 3 (blockOf true true (moving 5 (pos 0)) noMotion) (interBlock (moving 5 (pos 0)) noMotion) ≡ interStrength 3 (blockOf true true (moving 5 (pos 0)) noMotion) (interBlock (moving 5 (pos 0)) noMotion) → ⊥
 unfolding interStrength differ mismatched used outside
 not-one-count e = let k : _≡_ {A = ℕ} 0 2 = e in omega arith

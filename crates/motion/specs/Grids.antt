@@ -34,13 +34,13 @@ abbrev pub motionAt : List ℤ → List ℤ → ℕ → Motion
 motionAt refs mvs i = vectorAt (refAt refs i) mvs i
 
 -- a block of what each list holds
-abbrev pub joined : Bool → Bool → Motion → Motion → Blk
-joined s t m n =
-    record { inter = s; nz = t; «ref_id» = m .reference; mvx = m .x; mvy = m .y; ref1 = n .reference; mv1x = n .x; mv1y = n .y }
+abbrev pub blockOf : Bool → Bool → Motion → Motion → Blk
+blockOf s t m n =
+    record { inter = s; nz = t; ref0 = m .reference; mv0x = m .x; mv0y = m .y; ref1 = n .reference; mv1x = n .x; mv1y = n .y }
 
 unfoldable pub blkAt : Grids → ℕ → Blk
 blkAt g i =
-    joined
+    blockOf
     (eqb (getD (g .inter) i 0) 1)
     (not (eqb (getD (g .nnz) i 0) 0))
     (motionAt (g .ref0) (g .mv0) i)

@@ -7,10 +7,10 @@ use Rattle.motion.specs.declared.blocks.Motion.{Motion}
 use Rattle.motion.specs.declared.blocks.UsedRefs.{UsedRefs}
 
 -- what stands in the two slots
-abbrev pub both : UsedRefs → List Motion
-both u = u .one ∷ u .two ∷ []
+abbrev pub slotsOf : UsedRefs → List Motion
+slotsOf u = u .one ∷ u .two ∷ []
 
 -- u lists l: it counts as many as l has, and its first slots hold them
 pub record Listed (u : UsedRefs) (l : List Motion) : Type 0 where
   pub number : u .count ≡ length l
-  pub slots : take (u .count) (both u) ≡ l
+  pub slots : take (u .count) (slotsOf u) ≡ l

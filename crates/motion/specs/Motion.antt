@@ -15,11 +15,11 @@ use Rattle.motion.specs.declared.blocks.Blk.{Blk}
 use Rattle.motion.specs.declared.blocks.Motion.{Motion}
 
 -- ---- what a block holds of list 0 and of list 1
-abbrev pub first : Blk → Motion
-first b = record { reference = b .«ref_id»; x = b .mvx; y = b .mvy }
+abbrev pub motion0 : Blk → Motion
+motion0 b = record { reference = b .ref0; x = b .mv0x; y = b .mv0y }
 
-abbrev pub second : Blk → Motion
-second b = record { reference = b .ref1; x = b .mv1x; y = b .mv1y }
+abbrev pub motion1 : Blk → Motion
+motion1 b = record { reference = b .ref1; x = b .mv1x; y = b .mv1y }
 
 -- ---- the references that it uses, with their vectors
 abbrev pub isUsed : Motion → Bool
@@ -29,7 +29,7 @@ abbrev pub ifUsed : Motion → List Motion
 ifUsed m = cond (isUsed m) (m ∷ []) []
 
 unfoldable pub used : Blk → List Motion
-used b = ifUsed (first b) ++ ifUsed (second b)
+used b = ifUsed (motion0 b) ++ ifUsed (motion1 b)
 
 -- ---- pairings. v is the most by which near vectors differ vertically: 3, and in fields 1; horizontally it
 -- is always 3
@@ -70,8 +70,8 @@ unfoldable pub interStrength : ℕ → Blk → Blk → ℕ
 interStrength v p q = cond (p .nz || q .nz) 2 (cond (differ v p q) 1 0)
 
 -- ---- the same motion: equal references and vectors in both lists, used or not
-abbrev pub equal : Motion → Motion → Bool
-equal a b = eqZ (a .reference) (b .reference) && eqZ (a .x) (b .x) && eqZ (a .y) (b .y)
+abbrev pub equalMotion : Motion → Motion → Bool
+equalMotion a b = eqZ (a .reference) (b .reference) && eqZ (a .x) (b .x) && eqZ (a .y) (b .y)
 
 unfoldable pub sameMotion : Blk → Blk → Bool
-sameMotion p q = equal (first p) (first q) && equal (second p) (second q)
+sameMotion p q = equalMotion (motion0 p) (motion0 q) && equalMotion (motion1 p) (motion1 q)

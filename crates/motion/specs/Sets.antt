@@ -8,9 +8,9 @@ abbrev pub among : ℤ → List ℤ → Bool
 among r [] = false
 among r (s ∷ l) = eqZ r s || among r l
 
-abbrev pub within : List ℤ → List ℤ → Bool
-within [] l = true
-within (r ∷ k) l = among r l && within k l
+abbrev pub allAmong : List ℤ → List ℤ → Bool
+allAmong [] l = true
+allAmong (r ∷ k) l = among r l && allAmong k l
 
 abbrev pub sameSet : List ℤ → List ℤ → Bool
-sameSet k l = within k l && within l k
+sameSet k l = allAmong k l && allAmong l k

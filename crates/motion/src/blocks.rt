@@ -2,8 +2,8 @@
 // 8.7.2.1). `vertical` is the most by which near vectors differ vertically: 3 in frames, 1 in fields.
 // Horizontally it is always 3.
 ghost use mathlib.Core.Path.{_≡_};
-ghost use Rattle.motion.specs.Motion.{first, second, isUsed, used, mate, paired, differ, interStrength, equal, sameMotion};
-ghost use Rattle.motion.specs.Listed.{both, Listed};
+ghost use Rattle.motion.specs.Motion.{motion0, motion1, isUsed, used, mate, paired, differ, interStrength, equalMotion, sameMotion};
+ghost use Rattle.motion.specs.Listed.{slotsOf, Listed};
 use crate::vectors::far;
 
 // A 4x4 block: inter-coded or not, with coefficients or not, and of each list a reference, below 0 for none,
@@ -11,9 +11,9 @@ use crate::vectors::far;
 pub struct Blk {
     pub inter: bool,
     pub nz: bool,
-    pub ref_id: i32,
-    pub mvx: i16,
-    pub mvy: i16,
+    pub ref0: i32,
+    pub mv0x: i16,
+    pub mv0y: i16,
     pub ref1: i32,
     pub mv1x: i16,
     pub mv1y: i16,
@@ -34,19 +34,19 @@ struct UsedRefs {
 }
 
 // What a block holds of list 0.
-fn first(b: Blk) -> Motion
-    ensures { λ r. ⌜ r ≡ first b ⌝ }
+fn motion0(b: Blk) -> Motion
+    ensures { λ r. ⌜ r ≡ motion0 b ⌝ }
 {
     Motion {
-        reference: b.ref_id,
-        x: b.mvx,
-        y: b.mvy,
+        reference: b.ref0,
+        x: b.mv0x,
+        y: b.mv0y,
     }
 }
 
 // What it holds of list 1.
-fn second(b: Blk) -> Motion
-    ensures { λ r. ⌜ r ≡ second b ⌝ }
+fn motion1(b: Blk) -> Motion
+    ensures { λ r. ⌜ r ≡ motion1 b ⌝ }
 {
     Motion {
         reference: b.ref1,
@@ -66,8 +66,8 @@ fn is_used(m: Motion) -> bool
 fn used(b: Blk) -> UsedRefs
     ensures { λ r. ⌜ Listed r (used b) ⌝ }
 {
-    let one = first(b);
-    let two = second(b);
+    let one = motion0(b);
+    let two = motion1(b);
     if is_used(one) {
         if is_used(two) {
             return UsedRefs { count: 2, one, two };
@@ -95,11 +95,11 @@ fn mate(vertical: u8, a: Motion, b: Motion) -> bool
 
 // Two references each: a pairing, in order or crossed, serves.
 fn paired(vertical: u8, p: UsedRefs, q: UsedRefs) -> bool
-    ensures { λ r. ⌜ r ≡ paired vertical (both p) (both q) ⌝ }
+    ensures { λ r. ⌜ r ≡ paired vertical (slotsOf p) (slotsOf q) ⌝ }
 {
-    let direct = mate(vertical, p.one, q.one) & mate(vertical, p.two, q.two);
-    let swap = mate(vertical, p.one, q.two) & mate(vertical, p.two, q.one);
-    direct | swap
+    let straight = mate(vertical, p.one, q.one) & mate(vertical, p.two, q.two);
+    let crossed = mate(vertical, p.one, q.two) & mate(vertical, p.two, q.one);
+    straight | crossed
 }
 
 // Whether the motion of two blocks differs: by the number of references that they use.
@@ -134,8 +134,8 @@ pub fn bs_inter(vertical: u8, p: Blk, q: Blk) -> u8
 }
 
 // Equal references and vectors.
-fn equal(a: Motion, b: Motion) -> bool
-    ensures { λ r. ⌜ r ≡ equal a b ⌝ }
+fn equal_motion(a: Motion, b: Motion) -> bool
+    ensures { λ r. ⌜ r ≡ equalMotion a b ⌝ }
 {
     (a.reference == b.reference) & (a.x == b.x) & (a.y == b.y)
 }
@@ -144,5 +144,5 @@ fn equal(a: Motion, b: Motion) -> bool
 pub fn same_motion(p: Blk, q: Blk) -> bool
     ensures { λ r. ⌜ r ≡ sameMotion p q ⌝ }
 {
-    equal(first(p), first(q)) & equal(second(p), second(q))
+    equal_motion(motion0(p), motion0(q)) & equal_motion(motion1(p), motion1(q))
 }

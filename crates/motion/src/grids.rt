@@ -4,38 +4,38 @@ ghost use mathlib.Core.Path.{_≡_};
 ghost use mathlib.Core.Bool.{cond};
 ghost use Prim.Native.Nat.{_+_, _*_, _<_, _≤_};
 ghost use lib.ListN.{length};
-ghost use Rattle.motion.specs.Grids.{grids, refAt, vectorAt, motionAt, joined, blkAt};
+ghost use Rattle.motion.specs.Grids.{grids, refAt, vectorAt, motionAt, blockOf, blkAt};
 ghost use Rattle.motion.specs.Inner.{Optional, Hold, pairAt};
 use crate::blocks::Blk;
 use crate::blocks::Motion;
 
 // The pair of block i, as part of a motion grid.
-fn pair<'a>(mv: &'a [i16], i: usize) -> &'a [i16]
-    requires { ⌜ 2 * i + 2 ≤ length (now mv) ⌝ }
-    ensures { λ r. ⌜ now r ≡ pairAt (now (mv .entry)) i ⌝ }
+fn pair<'a>(mvs: &'a [i16], i: usize) -> &'a [i16]
+    requires { ⌜ 2 * i + 2 ≤ length (now mvs) ⌝ }
+    ensures { λ r. ⌜ now r ≡ pairAt (now (mvs .entry)) i ⌝ }
 {
     let a = 2 * i;
     let e = a + 2;
-    &mv[a..e]
+    &mvs[a..e]
 }
 
 // The same of list 1's grid, where `second`, or of list 0's.
-fn mv_at<'a>(mv: &'a [i16], mv1: &'a [i16], second: bool, i: usize) -> &'a [i16]
-    requires { ⌜ 2 * i + 2 ≤ length (cond second (now mv1) (now mv)) ⌝ }
-    ensures { λ r. ⌜ now r ≡ pairAt (cond second (now (mv1 .entry)) (now (mv .entry))) i ⌝ }
+fn mv_at<'a>(mv0: &'a [i16], mv1: &'a [i16], second: bool, i: usize) -> &'a [i16]
+    requires { ⌜ 2 * i + 2 ≤ length (cond second (now mv1) (now mv0)) ⌝ }
+    ensures { λ r. ⌜ now r ≡ pairAt (cond second (now (mv1 .entry)) (now (mv0 .entry))) i ⌝ }
 {
     if second {
         return pair(mv1, i);
     }
-    pair(mv, i)
+    pair(mv0, i)
 }
 
 // A reference with the vector of block i.
-fn vector_at<'a>(reference: i32, mv: &'a [i16], mv1: &'a [i16], second: bool, i: usize) -> Motion
-    requires { ⌜ 2 * i + 2 ≤ length (cond second (now mv1) (now mv)) ⌝ }
-    ensures { λ r. ⌜ r ≡ vectorAt reference (cond second (now (mv1 .entry)) (now (mv .entry))) i ⌝ }
+fn vector_at<'a>(reference: i32, mv0: &'a [i16], mv1: &'a [i16], second: bool, i: usize) -> Motion
+    requires { ⌜ 2 * i + 2 ≤ length (cond second (now mv1) (now mv0)) ⌝ }
+    ensures { λ r. ⌜ r ≡ vectorAt reference (cond second (now (mv1 .entry)) (now (mv0 .entry))) i ⌝ }
 {
-    let p = mv_at(mv, mv1, second, i);
+    let p = mv_at(mv0, mv1, second, i);
     let x = p[0];
     let y = p[1];
     Motion { reference, x, y }
@@ -50,15 +50,15 @@ fn ref_at(refs: &[i8], i: usize) -> i32
 }
 
 // What list 0 holds of block i.
-fn list0<'a>(ref_id: &[i8], mv: &'a [i16], mv1: &'a [i16], i: usize) -> Motion
-    requires { ⌜ (i < length (now «ref_id»)) × (2 * i + 2 ≤ length (now mv)) ⌝ }
-    ensures { λ r. ⌜ r ≡ motionAt (now («ref_id» .entry)) (now (mv .entry)) i ⌝ }
+fn list0<'a>(ref0: &[i8], mv0: &'a [i16], mv1: &'a [i16], i: usize) -> Motion
+    requires { ⌜ (i < length (now ref0)) × (2 * i + 2 ≤ length (now mv0)) ⌝ }
+    ensures { λ r. ⌜ r ≡ motionAt (now (ref0 .entry)) (now (mv0 .entry)) i ⌝ }
 {
-    vector_at(ref_at(ref_id, i), mv, mv1, false, i)
+    vector_at(ref_at(ref0, i), mv0, mv1, false, i)
 }
 
 // What list 1 holds of it. Its grids may be empty.
-fn list1<'a>(ref1: &[i8], mv: &'a [i16], mv1: &'a [i16], i: usize) -> Motion
+fn list1<'a>(ref1: &[i8], mv0: &'a [i16], mv1: &'a [i16], i: usize) -> Motion
     requires { ⌜ Optional (now ref1) (now mv1) (i + 1) ⌝ }
     ensures { λ r. ⌜ r ≡ motionAt (now (ref1 .entry)) (now (mv1 .entry)) i ⌝ }
 {
@@ -69,19 +69,19 @@ fn list1<'a>(ref1: &[i8], mv: &'a [i16], mv1: &'a [i16], i: usize) -> Motion
             y: 0,
         };
     }
-    vector_at(ref_at(ref1, i), mv, mv1, true, i)
+    vector_at(ref_at(ref1, i), mv0, mv1, true, i)
 }
 
 // A block of what each list holds.
-fn joined(inter: bool, nz: bool, m: Motion, n: Motion) -> Blk
-    ensures { λ r. ⌜ r ≡ joined inter nz m n ⌝ }
+fn block_of(inter: bool, nz: bool, m: Motion, n: Motion) -> Blk
+    ensures { λ r. ⌜ r ≡ blockOf inter nz m n ⌝ }
 {
     Blk {
         inter,
         nz,
-        ref_id: m.reference,
-        mvx: m.x,
-        mvy: m.y,
+        ref0: m.reference,
+        mv0x: m.x,
+        mv0y: m.y,
         ref1: n.reference,
         mv1x: n.x,
         mv1y: n.y,
@@ -92,17 +92,17 @@ fn joined(inter: bool, nz: bool, m: Motion, n: Motion) -> Blk
 pub fn load<'a>(
     inter: &[u8],
     nnz: &[u8],
-    ref_id: &[i8],
-    mv: &'a [i16],
+    ref0: &[i8],
+    mv0: &'a [i16],
     ref1: &[i8],
     mv1: &'a [i16],
     i: usize,
 ) -> Blk
-    requires { ⌜ Hold (grids (now inter) (now nnz) (now «ref_id») (now mv) (now ref1) (now mv1)) (i + 1) ⌝ }
-    ensures { λ r. ⌜ r ≡ blkAt (grids (now (inter .entry)) (now (nnz .entry)) (now («ref_id» .entry))
-        (now (mv .entry)) (now (ref1 .entry)) (now (mv1 .entry))) i ⌝ }
+    requires { ⌜ Hold (grids (now inter) (now nnz) (now ref0) (now mv0) (now ref1) (now mv1)) (i + 1) ⌝ }
+    ensures { λ r. ⌜ r ≡ blkAt (grids (now (inter .entry)) (now (nnz .entry)) (now (ref0 .entry))
+        (now (mv0 .entry)) (now (ref1 .entry)) (now (mv1 .entry))) i ⌝ }
 {
-    let m = list0(ref_id, mv, mv1, i);
-    let n = list1(ref1, mv, mv1, i);
-    joined(inter[i] == 1, nnz[i] != 0, m, n)
+    let m = list0(ref0, mv0, mv1, i);
+    let n = list1(ref1, mv0, mv1, i);
+    block_of(inter[i] == 1, nnz[i] != 0, m, n)
 }

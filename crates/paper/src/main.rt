@@ -76,9 +76,9 @@ fn block(ref0: i32, x0: i16, ref1: i32, x1: i16) -> Blk {
     Blk {
         inter: true,
         nz: false,
-        ref_id: ref0,
-        mvx: x0,
-        mvy: 0,
+        ref0,
+        mv0x: x0,
+        mv0y: 0,
         ref1,
         mv1x: x1,
         mv1y: 0,

@@ -14,14 +14,14 @@ use Rattle.motion.specs.Grids.{Grids, blkAt}
 use Rattle.motion.specs.Motion.{interStrength, sameMotion}
 use Rattle.motion.proofs.Laws.{same-join, strength-same}
 use Rattle.motion.specs.declared.blocks.Blk.{Blk}
-use Rattle.strengths.specs.Blocks.{origin, own}
+use Rattle.strengths.specs.Blocks.{origin, ownBlock}
 use Rattle.strengths.specs.Checks.{disagree}
-use Rattle.strengths.specs.Strength.{vertical, edge, segment, row, column, qBlock, pBlock, border, skipped, between, strengthAt}
+use Rattle.strengths.specs.Strength.{vertical, edge, segment, qRow, qColumn, qBlock, pBlock, border, skipped, between, strengthAt}
 use Rattle.strengths.specs.Kinds.{everyOwn, uniform, flat, isKind}
-use Rattle.strengths.specs.ByKind.{first, inside, acrossBy, strengthBy}
+use Rattle.strengths.specs.ByKind.{firstInter, inside, acrossBy, strengthBy}
 use Rattle.strengths.specs.declared.kinds.MbKind.{MbKind}
 use Rattle.strengths.specs.declared.kinds.MbKind.the-variants.{Intra, Skip, InterUniform, Inter}
-use Rattle.strengths.proofs.Agreed.{own-inter, inter-is, intra-is}
+use Rattle.strengths.proofs.InterAgrees.{own-inter, inter-is, intra-is}
 
 -- ---- across an inner edge both blocks are the macroblock's own
 pub record Own (w x y i : ℕ) : Type 0 where
@@ -29,7 +29,7 @@ pub record Own (w x y i : ℕ) : Type 0 where
   pub c : ℕ
   pub row : r < 4
   pub col : c < 4
-  pub is : i ≡ own w x y r c
+  pub is : i ≡ ownBlock w x y r c
 
 four : (n : ℕ) → n % 4 < 4
 four n = omega arith
@@ -37,7 +37,7 @@ four n = omega arith
 q-own : (w x y k : ℕ) → Own w x y (qBlock w x y k)
 q-own w x y k = go (vertical k)
   where
-    go : (b : Bool) → Own w x y (own w x y (cond b (segment k) (edge k)) (cond b (edge k) (segment k)))
+    go : (b : Bool) → Own w x y (ownBlock w x y (cond b (segment k) (edge k)) (cond b (edge k) (segment k)))
     go true = record { r = segment k; c = edge k; row = four k; col = four (k / 4); is = refl }
     go false = record { r = edge k; c = segment k; row = four (k / 4); col = four k; is = refl }
 
@@ -50,7 +50,7 @@ p-own w x y k n = go (vertical k)
     up : edge k * (4 * w) ≡ (edge k - 1) * (4 * w) + 4 * w
     up = let f : edge k ≡ suc (edge k - 1) = omega arith in ap (λ (m : ℕ). m * (4 * w)) f ∙ omega arith
 
-    go : (b : Bool) → Own w x y (own w x y (cond b (segment k) (edge k)) (cond b (edge k) (segment k)) - cond b 1 (4 * w))
+    go : (b : Bool) → Own w x y (ownBlock w x y (cond b (segment k) (edge k)) (cond b (edge k) (segment k)) - cond b 1 (4 * w))
     go true = record { r = segment k; c = edge k - 1; row = four k; col = omega (arith, four (k / 4)); is = omega arith }
     go false = record { r = edge k - 1; c = segment k; row = omega (arith, four (k / 4)); col = four k; is = omega (arith, up) }
 
@@ -70,7 +70,7 @@ uncoded : (s t : Bool) → s ≡ false → t ≡ false → _≡_ {A = ℕ} (cond
 uncoded s t a b = λ i. cond (a i || b i) 2 0
 
 module _ (g : Grids) (w x y : ℕ) (agree : disagree (g .inter) w x y ≡ false) where
-  inter-of : (i : ℕ) → Own w x y i → blkAt g i .inter ≡ first (g .inter) w x y
+  inter-of : (i : ℕ) → Own w x y i → blkAt g i .inter ≡ firstInter (g .inter) w x y
   inter-of i o = ap (λ (n : ℕ). blkAt g n .inter) (o .is) ∙ own-inter g w x y agree (o .r) (o .c) (o .row) (o .col)
 
   uniform-inside : uniform g w x y ≡ true → (i j : ℕ) → Own w x y i → Own w x y j

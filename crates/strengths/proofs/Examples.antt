@@ -15,25 +15,25 @@ use Rattle.strengths.specs.Calls.{answerOf}
 use Rattle.strengths.specs.Strength.{between, strengthAt}
 
 -- ---- one macroblock, all intra, no list 1
-abbrev pub one : Size
-one = record { w = 1; h = 1 }
+abbrev pub oneMb : Size
+oneMb = record { w = 1; h = 1 }
 
 abbrev pub intra : Grids
 intra = grids (replicate 16 0) (replicate 16 0) (replicate 16 (negsuc 0)) (replicate 32 (pos 0)) [] []
 
-pub answered : answerOf one 0 0 intra false 32 ≡ 0
+pub answered : answerOf oneMb 0 0 intra false 32 ≡ 0
 unfolding answerOf someRead some disagree
 answered = refl
 
 -- its left and top edges, at the picture's border, have 0; those inside 3. Bytes 0 and 4: vertical edges 0
 -- and 1
-pub outer : strengthAt intra 1 false 0 0 0 ≡ 0
+pub border-zero : strengthAt intra 1 false 0 0 0 ≡ 0
 unfolding strengthAt
-outer = refl
+border-zero = refl
 
-pub inner : strengthAt intra 1 false 0 0 4 ≡ 3
+pub inside-three : strengthAt intra 1 false 0 0 4 ≡ 3
 unfolding strengthAt between blkAt
-inner = refl
+inside-three = refl
 
 -- bytes 16, 20, 24, 28: horizontal edges 0 to 3, with and without the 8x8 transform
 horizontal : (map (strengthAt intra 1 false 0 0) (16 ∷ 20 ∷ 24 ∷ 28 ∷ []) ≡ 0 ∷ 3 ∷ 3 ∷ 3 ∷ [])
@@ -42,12 +42,12 @@ unfolding strengthAt between blkAt
 horizontal = (refl, refl)
 
 -- ---- two side by side, of which the right one is asked: four rows of 4 blocks each
-abbrev rows : {A : Type 0} → List A → List A
-rows r = r ++ r ++ r ++ r
+abbrev fourRows : {A : Type 0} → List A → List A
+fourRows r = r ++ r ++ r ++ r
 
 -- the left one intra: 4 on the edge between them, and inside the right one, of one motion, 0
 abbrev besideIntra : Grids
-besideIntra = grids (rows (replicate 4 0 ++ replicate 4 1)) (replicate 32 0) (replicate 32 (pos 0)) (replicate 64 (pos 0)) [] []
+besideIntra = grids (fourRows (replicate 4 0 ++ replicate 4 1)) (replicate 32 0) (replicate 32 (pos 0)) (replicate 64 (pos 0)) [] []
 
 beside-intra : map (strengthAt besideIntra 2 false 1 0) (0 ∷ 3 ∷ 4 ∷ 20 ∷ []) ≡ 4 ∷ 4 ∷ 0 ∷ 0 ∷ []
 unfolding strengthAt between blkAt interStrength differ mismatched used outside
@@ -58,7 +58,7 @@ beside-intra = refl
 abbrev besideMoved : Grids
 besideMoved =
     grids (replicate 32 1) (replicate 4 1 ++ replicate 28 0) (replicate 32 (pos 0))
-    (rows (pos 4 ∷ pos 0 ∷ pos 4 ∷ pos 0 ∷ pos 4 ∷ pos 0 ∷ pos 4 ∷ pos 0 ∷ replicate 8 (pos 0))) [] []
+    (fourRows (pos 4 ∷ pos 0 ∷ pos 4 ∷ pos 0 ∷ pos 4 ∷ pos 0 ∷ pos 4 ∷ pos 0 ∷ replicate 8 (pos 0))) [] []
 
 beside-moved : map (strengthAt besideMoved 2 false 1 0) (0 ∷ 1 ∷ 3 ∷ 4 ∷ 20 ∷ []) ≡ 2 ∷ 1 ∷ 1 ∷ 0 ∷ 0 ∷ []
 unfolding strengthAt between blkAt interStrength differ mismatched used outside

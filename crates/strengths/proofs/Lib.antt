@@ -1,10 +1,10 @@
-pub mod Agreed
+pub mod InterAgrees
 pub mod Beside
 pub mod ByKind
 pub mod Examples
 pub mod Inclusion
-pub mod Outcomes
-pub mod Passed
+pub mod DeriveOutcomes
+pub mod GridsFit
 pub mod Refused
 pub mod Sized
 pub mod Written

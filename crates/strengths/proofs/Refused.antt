@@ -14,26 +14,26 @@ use Rattle.laws.specs.Some.{some}
 use Rattle.motion.specs.Grids.{Grids, grids}
 use Rattle.strengths.specs.Blocks.{someRead}
 use Rattle.strengths.specs.Checks.{badInter, badRefs, disagree}
-use Rattle.strengths.specs.Calls.{numbers, answerOf, Outcome}
+use Rattle.strengths.specs.Calls.{lengthChecks, answerOf, DeriveOutcome}
 use Rattle.strengths.specs.Strength.{edge, vertical, skipped, strengthAt}
-use Rattle.strengths.proofs.Examples.{one, intra, answered, outer, inner}
+use Rattle.strengths.proofs.Examples.{oneMb, intra, answered, border-zero, inside-three}
 use Rattle.strengths.proofs.Written.{written-at}
 
 -- a strengths grid of one macroblock, nothing written
-abbrev blank : List ℕ
-blank = replicate 32 0
+abbrev unwritten : List ℕ
+unwritten = replicate 32 0
 
 -- ---- a strength call that always refuses
-pub always-refuses : (n : ℕ) (s : List ℕ) → (n ≡ 0 → ⊥) → Outcome one 0 0 false intra false blank n s → ⊥
+pub always-refuses : (n : ℕ) (s : List ℕ) → (n ≡ 0 → ⊥) → DeriveOutcome oneMb 0 0 false intra false unwritten n s → ⊥
 always-refuses n s h r = h (r .says ∙ answered)
 
 -- ---- one that writes the same strength everywhere: an intra macroblock by itself has 0 on its outer and 3
 -- on its inner edges
-pub constant : (c : ℕ) (s : List ℕ) → ((k : ℕ) → k < 32 → getD s k 0 ≡ c) → Outcome one 0 0 false intra false blank 0 s → ⊥
+pub constant : (c : ℕ) (s : List ℕ) → ((k : ℕ) → k < 32 → getD s k 0 ≡ c) → DeriveOutcome oneMb 0 0 false intra false unwritten 0 s → ⊥
 constant c s h r =
     let f = strengthAt intra 1 false 0 0 in
-    let p : c ≡ 0 = sym (h 0 (ltb-true 0 32 refl)) ∙ ap (λ (t : List ℕ). getD t 0 0) (r .leaves) ∙ written-at 0 f blank 0 (ltb-true 0 32 refl) (omega arith) ∙ outer in
-    let q : c ≡ 3 = sym (h 4 (ltb-true 4 32 refl)) ∙ ap (λ (t : List ℕ). getD t 4 0) (r .leaves) ∙ written-at 0 f blank 4 (ltb-true 4 32 refl) (omega arith) ∙ inner in
+    let p : c ≡ 0 = sym (h 0 (ltb-true 0 32 refl)) ∙ ap (λ (t : List ℕ). getD t 0 0) (r .leaves) ∙ written-at 0 f unwritten 0 (ltb-true 0 32 refl) (omega arith) ∙ border-zero in
+    let q : c ≡ 3 = sym (h 4 (ltb-true 4 32 refl)) ∙ ap (λ (t : List ℕ). getD t 4 0) (r .leaves) ∙ written-at 0 f unwritten 4 (ltb-true 4 32 refl) (omega arith) ∙ inside-three in
     omega arith
 
 -- ---- the 8x8 transform honoured on vertical edges only: byte 20 is the first of horizontal edge 1
@@ -44,8 +44,8 @@ pub not-upright : ((k : ℕ) → upright true k ≡ skipped true k) → ⊥
 not-upright h = false≢true (h 20)
 
 -- ---- 11 before 10: block 5 alone is inter, and its reference is -2. The answer is 10
-abbrev mixed : Grids
-mixed =
+abbrev mixedInter : Grids
+mixedInter =
     grids
     (replicate 5 0 ++ 1 ∷ replicate 10 0)
     (replicate 16 0)
@@ -54,8 +54,8 @@ mixed =
     [] []
 
 abbrev exchanged : ℕ
-exchanged = refusal (numbers one 0 0 mixed 32 ++ (7, badInter mixed 1 0 0) ∷ (11, disagree (mixed .inter) 1 0 0) ∷ (10, badRefs mixed 1 0 0) ∷ [])
+exchanged = refusal (lengthChecks oneMb 0 0 mixedInter 32 ++ (7, badInter mixedInter 1 0 0) ∷ (11, disagree (mixedInter .inter) 1 0 0) ∷ (10, badRefs mixedInter 1 0 0) ∷ [])
 
-pub not-exchanged : exchanged ≡ answerOf one 0 0 mixed false 32 → ⊥
+pub not-exchanged : exchanged ≡ answerOf oneMb 0 0 mixedInter false 32 → ⊥
 unfolding answerOf someRead some disagree
 not-exchanged e = let k : _≡_ {A = ℕ} 11 10 = e in omega arith

@@ -11,23 +11,23 @@ abbrev pub origin : ℕ → ℕ → ℕ → ℕ
 origin w x y = 16 * (y * w) + 4 * x
 
 -- the one in its row r and column c
-abbrev pub own : ℕ → ℕ → ℕ → ℕ → ℕ → ℕ
-own w x y r c = origin w x y + r * (4 * w) + c
+abbrev pub ownBlock : ℕ → ℕ → ℕ → ℕ → ℕ → ℕ
+ownBlock w x y r c = origin w x y + r * (4 * w) + c
 
 -- a row of places, `step` apart, whose first is `back` before `at`
-abbrev pub beside : ℕ → ℕ → ℕ → ℕ → ℕ
-beside at back step k = at - back + k * step
+abbrev pub besideBlock : ℕ → ℕ → ℕ → ℕ → ℕ
+besideBlock at back step k = at - back + k * step
 
 -- the k-th to the left and the k-th above, where there are any
-abbrev pub left : ℕ → ℕ → ℕ → ℕ → ℕ
-left w x y k = beside (origin w x y) 1 (4 * w) k
+abbrev pub leftBlock : ℕ → ℕ → ℕ → ℕ → ℕ
+leftBlock w x y k = besideBlock (origin w x y) 1 (4 * w) k
 
-abbrev pub above : ℕ → ℕ → ℕ → ℕ → ℕ
-above w x y k = beside (origin w x y) (4 * w) 1 k
+abbrev pub aboveBlock : ℕ → ℕ → ℕ → ℕ → ℕ
+aboveBlock w x y k = besideBlock (origin w x y) (4 * w) 1 k
 
 -- a block that is read passes the test f
 unfoldable pub someRead : ℕ → ℕ → ℕ → (ℕ → Bool) → Bool
 someRead w x y f =
-    some 4 (λ r. some 4 (λ c. f (own w x y r c)))
-    || (ltb 0 x && some 4 (λ k. f (left w x y k)))
-    || (ltb 0 y && some 4 (λ k. f (above w x y k)))
+    some 4 (λ r. some 4 (λ c. f (ownBlock w x y r c)))
+    || (ltb 0 x && some 4 (λ k. f (leftBlock w x y k)))
+    || (ltb 0 y && some 4 (λ k. f (aboveBlock w x y k)))

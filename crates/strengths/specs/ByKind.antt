@@ -15,8 +15,8 @@ use Rattle.strengths.specs.declared.kinds.MbKind.{MbKind}
 use Rattle.strengths.specs.declared.kinds.MbKind.the-variants.{Intra, Skip, InterUniform, Inter}
 
 -- the first of the own blocks is inter
-abbrev pub first : List ℕ → ℕ → ℕ → ℕ → Bool
-first inter w x y = eqb (getD inter (origin w x y) 0) 1
+abbrev pub firstInter : List ℕ → ℕ → ℕ → ℕ → Bool
+firstInter inter w x y = eqb (getD inter (origin w x y) 0) 1
 
 -- a kind is true of own blocks that agree on inter, where the first is inter, all 16 have one motion, some of
 -- them has coefficients

@@ -19,19 +19,19 @@ use Rattle.strengths.specs.declared.kinds.Flagged.{Flagged}
 use Rattle.strengths.specs.declared.kinds.Plain.{Plain}
 
 -- ---- checks 1 to 11; n is the length of the strengths grid
-abbrev pub numbers : Size → ℕ → ℕ → Grids → ℕ → List (ℕ × Bool)
-numbers size x y g n =
+abbrev pub lengthChecks : Size → ℕ → ℕ → Grids → ℕ → List (ℕ × Bool)
+lengthChecks size x y g n =
     (1, badSize size) ∷ (2, outsideOf size x y) ∷ (4, badStrengths size n) ∷ (5, badBlocks (16 * (size .w * size .h)) g) ∷ []
 
-abbrev pub blocks : Size → ℕ → ℕ → Grids → List (ℕ × Bool)
-blocks size x y g = (7, badInter g (size .w) x y) ∷ (10, badRefs g (size .w) x y) ∷ (11, disagree (g .inter) (size .w) x y) ∷ []
+abbrev pub blockChecks : Size → ℕ → ℕ → Grids → List (ℕ × Bool)
+blockChecks size x y g = (7, badInter g (size .w) x y) ∷ (10, badRefs g (size .w) x y) ∷ (11, disagree (g .inter) (size .w) x y) ∷ []
 
-abbrev pub checks : Size → ℕ → ℕ → Grids → ℕ → List (ℕ × Bool)
-checks size x y g n = numbers size x y g n ++ blocks size x y g
+abbrev pub deriveChecks : Size → ℕ → ℕ → Grids → ℕ → List (ℕ × Bool)
+deriveChecks size x y g n = lengthChecks size x y g n ++ blockChecks size x y g
 
 -- ---- the answer: `untrue` is check 12
 unfoldable pub answerOf : Size → ℕ → ℕ → Grids → Bool → ℕ → ℕ
-answerOf size x y g untrue n = refusal (checks size x y g n ++ ((12, untrue) ∷ []))
+answerOf size x y g untrue n = refusal (deriveChecks size x y g n ++ ((12, untrue) ∷ []))
 
 -- the kind, or a flag that is set, is not true of the grids
 abbrev pub untrueKind : Size → Request → Grids → Bool
@@ -42,15 +42,15 @@ untrueFlags w r g = (r .flat && not (flat g w (r .x) (r .y))) || (r .uniform && 
 
 -- ---- an outcome: the answer n, and the grid before and after. A refusal leaves it as it was; else the 32
 -- bytes of the macroblock are written and no other
-pub record Outcome (size : Size) (x y : ℕ) (t8 : Bool) (g : Grids) (untrue : Bool) (s : List ℕ) (n : ℕ) (s′ : List ℕ) : Type 0 where
+pub record DeriveOutcome (size : Size) (x y : ℕ) (t8 : Bool) (g : Grids) (untrue : Bool) (s : List ℕ) (n : ℕ) (s′ : List ℕ) : Type 0 where
   pub says : n ≡ answerOf size x y g untrue (length s)
   pub leaves : s′ ≡ cond (eqb n 0) (written (y * size .w + x) (strengthAt g (size .w) t8 x y) s) s
 
 abbrev pub KindOutcome : Size → Request → Grids → List ℕ → ℕ → List ℕ → Type 0
-KindOutcome size r g = Outcome size (r .x) (r .y) false g (untrueKind size r g)
+KindOutcome size r g = DeriveOutcome size (r .x) (r .y) false g (untrueKind size r g)
 
 abbrev pub FlagsOutcome : Size → Flagged → Grids → List ℕ → ℕ → List ℕ → Type 0
-FlagsOutcome size r g = Outcome size (r .x) (r .y) (r .t8) g (untrueFlags (size .w) r g)
+FlagsOutcome size r g = DeriveOutcome size (r .x) (r .y) (r .t8) g (untrueFlags (size .w) r g)
 
 abbrev pub PlainOutcome : Size → Plain → Grids → List ℕ → ℕ → List ℕ → Type 0
-PlainOutcome size r g = Outcome size (r .x) (r .y) (r .t8) g false
+PlainOutcome size r g = DeriveOutcome size (r .x) (r .y) (r .t8) g false

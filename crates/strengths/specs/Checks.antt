@@ -8,7 +8,7 @@ use lib.ListN.{length, getD}
 use lib.Signed.{ltZ}
 use Rattle.laws.specs.Some.{some}
 use Rattle.motion.specs.Grids.{Grids, refAt}
-use Rattle.strengths.specs.Blocks.{origin, own, left, above, someRead}
+use Rattle.strengths.specs.Blocks.{origin, ownBlock, leftBlock, aboveBlock, someRead}
 use Rattle.edges.specs.declared.Size.{Size}
 
 -- 1: W, H or their product is outside its range
@@ -52,6 +52,6 @@ differs inter i j = not (eqb (getD inter i 0) (getD inter j 0))
 
 unfoldable pub disagree : List ℕ → ℕ → ℕ → ℕ → Bool
 disagree inter w x y =
-    some 4 (λ r. some 4 (λ c. differs inter (own w x y r c) (origin w x y)))
-    || (ltb 0 x && some 4 (λ k. differs inter (left w x y k) (origin w x y - 1)))
-    || (ltb 0 y && some 4 (λ k. differs inter (above w x y k) (origin w x y - 4 * w)))
+    some 4 (λ r. some 4 (λ c. differs inter (ownBlock w x y r c) (origin w x y)))
+    || (ltb 0 x && some 4 (λ k. differs inter (leftBlock w x y k) (origin w x y - 1)))
+    || (ltb 0 y && some 4 (λ k. differs inter (aboveBlock w x y k) (origin w x y - 4 * w)))

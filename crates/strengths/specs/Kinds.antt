@@ -6,13 +6,13 @@ use Rattle.laws.specs.Some.{every}
 use Rattle.motion.specs.Grids.{Grids, blkAt}
 use Rattle.motion.specs.Motion.{sameMotion}
 use Rattle.motion.specs.declared.blocks.Blk.{Blk}
-use Rattle.strengths.specs.Blocks.{origin, own}
+use Rattle.strengths.specs.Blocks.{origin, ownBlock}
 use Rattle.strengths.specs.declared.kinds.MbKind.{MbKind}
 use Rattle.strengths.specs.declared.kinds.MbKind.the-variants.{Intra, Skip, InterUniform, Inter}
 
 -- every own block passes the test f
 abbrev pub everyOwn : Grids → ℕ → ℕ → ℕ → (Blk → Bool) → Bool
-everyOwn g w x y f = every 4 (λ r. every 4 (λ c. f (blkAt g (own w x y r c))))
+everyOwn g w x y f = every 4 (λ r. every 4 (λ c. f (blkAt g (ownBlock w x y r c))))
 
 unfoldable pub uniform : Grids → ℕ → ℕ → ℕ → Bool
 uniform g w x y = everyOwn g w x y (λ b. b .inter && sameMotion b (blkAt g (origin w x y)))

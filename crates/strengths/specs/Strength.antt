@@ -11,7 +11,7 @@ use Rattle.laws.specs.Loop.{upTo}
 use Rattle.motion.specs.Grids.{Grids, blkAt}
 use Rattle.motion.specs.Motion.{interStrength}
 use Rattle.motion.specs.declared.blocks.Blk.{Blk}
-use Rattle.strengths.specs.Blocks.{own}
+use Rattle.strengths.specs.Blocks.{ownBlock}
 
 -- ---- byte k: its edge, the blocks beside it, and whether there is a neighbour across an outer edge
 abbrev pub vertical : ℕ → Bool
@@ -24,14 +24,14 @@ abbrev pub segment : ℕ → ℕ
 segment k = k % 4
 
 -- the row and the column of q among the macroblock's own blocks
-abbrev pub row : ℕ → ℕ
-row k = cond (vertical k) (segment k) (edge k)
+abbrev pub qRow : ℕ → ℕ
+qRow k = cond (vertical k) (segment k) (edge k)
 
-abbrev pub column : ℕ → ℕ
-column k = cond (vertical k) (edge k) (segment k)
+abbrev pub qColumn : ℕ → ℕ
+qColumn k = cond (vertical k) (edge k) (segment k)
 
 abbrev pub qBlock : ℕ → ℕ → ℕ → ℕ → ℕ
-qBlock w x y k = own w x y (row k) (column k)
+qBlock w x y k = ownBlock w x y (qRow k) (qColumn k)
 
 -- p stands one to the left, or one row up
 abbrev pub pBlock : ℕ → ℕ → ℕ → ℕ → ℕ

@@ -7,9 +7,9 @@ ghost use lib.ListN.{length, getD};
 ghost use Rattle.laws.specs.Refusal.{refusal};
 ghost use Rattle.motion.specs.Grids.{grids};
 ghost use Rattle.strengths.specs.Blocks.{someRead};
-ghost use Rattle.strengths.specs.Inner.{Inside};
+ghost use Rattle.strengths.specs.Inner.{InGrids};
 ghost use Rattle.strengths.specs.Checks.{badSize, outsideOf, badStrengths, badLengths, belowNone, disagree};
-ghost use Rattle.strengths.specs.Calls.{checks};
+ghost use Rattle.strengths.specs.Calls.{deriveChecks};
 use crate::walks::beside_below;
 use crate::walks::beside_differ;
 use crate::walks::beside_over;
@@ -49,7 +49,7 @@ fn bad_lengths(
 }
 
 // Checks 1, 2, 4 and 5, which read lengths alone.
-pub fn bad_numbers(
+pub fn refuse_lengths(
     size: Size,
     x: usize,
     y: usize,
@@ -83,7 +83,7 @@ pub fn bad_numbers(
 
 // Check 7: an inter byte that is read is above 1.
 pub fn bad_inter(inter: &[u8], w: usize, x: usize, y: usize) -> bool
-    requires { ⌜ Inside w x y (length (now inter)) ⌝ }
+    requires { ⌜ InGrids w x y (length (now inter)) ⌝ }
     ensures { λ r. ⌜ r ≡ someRead w x y (λ i. ltb 1 (getD (now (inter .entry)) i 0)) ⌝ }
 {
     let at = 16 * (y * w) + 4 * x;
@@ -95,7 +95,7 @@ pub fn bad_inter(inter: &[u8], w: usize, x: usize, y: usize) -> bool
 
 // Check 10 in a list that is lent.
 fn bad_refs(refs: &[i8], w: usize, x: usize, y: usize) -> bool
-    requires { ⌜ Inside w x y (length (now refs)) ⌝ }
+    requires { ⌜ InGrids w x y (length (now refs)) ⌝ }
     ensures { λ r. ⌜ r ≡ someRead w x y (belowNone (now (refs .entry))) ⌝ }
 {
     let at = 16 * (y * w) + 4 * x;
@@ -107,7 +107,7 @@ fn bad_refs(refs: &[i8], w: usize, x: usize, y: usize) -> bool
 
 // Check 10 in a list that may be empty.
 pub fn bad_list(refs: &[i8], w: usize, x: usize, y: usize) -> bool
-    requires { ⌜ (0 < length (now refs) → Inside w x y (length (now refs))) ⌝ }
+    requires { ⌜ (0 < length (now refs) → InGrids w x y (length (now refs))) ⌝ }
     ensures { λ r. ⌜ r ≡ someRead w x y (belowNone (now (refs .entry))) ⌝ }
 {
     if 0 < refs.len() {
@@ -118,7 +118,7 @@ pub fn bad_list(refs: &[i8], w: usize, x: usize, y: usize) -> bool
 
 // Check 11.
 pub fn disagreeing(inter: &[u8], w: usize, x: usize, y: usize) -> bool
-    requires { ⌜ Inside w x y (length (now inter)) ⌝ }
+    requires { ⌜ InGrids w x y (length (now inter)) ⌝ }
     ensures { λ r. ⌜ r ≡ disagree (now (inter .entry)) w x y ⌝ }
 {
     let at = 16 * (y * w) + 4 * x;
@@ -129,29 +129,29 @@ pub fn disagreeing(inter: &[u8], w: usize, x: usize, y: usize) -> bool
 }
 
 // Checks 1 to 11. `strengths` is the length of the strengths grid.
-pub fn refuse<'a>(
+pub fn refuse_derive<'a>(
     size: Size,
     x: usize,
     y: usize,
     strengths: usize,
     inter: &[u8],
     nnz: &[u8],
-    ref_id: &[i8],
-    mv: &'a [i16],
+    ref0: &[i8],
+    mv0: &'a [i16],
     ref1: &[i8],
     mv1: &'a [i16],
 ) -> u32
-    ensures { λ r. ⌜ r ≡ refusal (checks size x y (grids (now (inter .entry)) (now (nnz .entry)) (now («ref_id» .entry)) (now (mv .entry)) (now (ref1 .entry)) (now (mv1 .entry))) strengths) ⌝ }
+    ensures { λ r. ⌜ r ≡ refusal (deriveChecks size x y (grids (now (inter .entry)) (now (nnz .entry)) (now (ref0 .entry)) (now (mv0 .entry)) (now (ref1 .entry)) (now (mv1 .entry))) strengths) ⌝ }
 {
-    let n = bad_numbers(
+    let n = refuse_lengths(
         size,
         x,
         y,
         strengths,
         inter.len(),
         nnz.len(),
-        ref_id.len(),
-        mv.len(),
+        ref0.len(),
+        mv0.len(),
         ref1.len(),
         mv1.len(),
     );
@@ -162,7 +162,7 @@ pub fn refuse<'a>(
     if bad_inter(inter, w, x, y) {
         return 7;
     }
-    let bad0 = bad_list(ref_id, w, x, y);
+    let bad0 = bad_list(ref0, w, x, y);
     let bad1 = bad_list(ref1, w, x, y);
     if bad0 | bad1 {
         return 10;

@@ -8,8 +8,8 @@ ghost use Rattle.laws.specs.Some.{every};
 ghost use Rattle.motion.specs.Grids.{grids, blkAt};
 ghost use Rattle.motion.specs.Inner.{Hold};
 ghost use Rattle.motion.specs.Motion.{sameMotion};
-ghost use Rattle.strengths.specs.Blocks.{own};
-ghost use Rattle.strengths.specs.Inner.{Inside};
+ghost use Rattle.strengths.specs.Blocks.{ownBlock};
+ghost use Rattle.strengths.specs.Inner.{InGrids};
 ghost use Rattle.strengths.specs.Strength.{border, skipped, qBlock, between, written};
 ghost use Rattle.strengths.specs.ByKind.{inside, acrossBy, strengthBy};
 use crate::kinds::MbKind;
@@ -24,18 +24,18 @@ fn row_same<'a>(
     first: Blk,
     inter: &[u8],
     nnz: &[u8],
-    ref_id: &[i8],
-    mv: &'a [i16],
+    ref0: &[i8],
+    mv0: &'a [i16],
     ref1: &[i8],
     mv1: &'a [i16],
     at: usize,
 ) -> bool
-    requires { ⌜ Hold (grids (now inter) (now nnz) (now «ref_id») (now mv) (now ref1) (now mv1)) (at + 4) ⌝ }
-    ensures { λ r. ⌜ r ≡ every 4 (λ k. sameMotion (blkAt (grids (now (inter .entry)) (now (nnz .entry)) (now («ref_id» .entry)) (now (mv .entry)) (now (ref1 .entry)) (now (mv1 .entry))) (at + k)) first) ⌝ }
+    requires { ⌜ Hold (grids (now inter) (now nnz) (now ref0) (now mv0) (now ref1) (now mv1)) (at + 4) ⌝ }
+    ensures { λ r. ⌜ r ≡ every 4 (λ k. sameMotion (blkAt (grids (now (inter .entry)) (now (nnz .entry)) (now (ref0 .entry)) (now (mv0 .entry)) (now (ref1 .entry)) (now (mv1 .entry))) (at + k)) first) ⌝ }
 {
     let mut same = true;
     for k in 0..4usize {
-        let b = load(inter, nnz, ref_id, mv, ref1, mv1, at + k);
+        let b = load(inter, nnz, ref0, mv0, ref1, mv1, at + k);
         same = same & same_motion(b, first);
     }
     same
@@ -44,20 +44,20 @@ fn row_same<'a>(
 pub fn own_same<'a>(
     inter: &[u8],
     nnz: &[u8],
-    ref_id: &[i8],
-    mv: &'a [i16],
+    ref0: &[i8],
+    mv0: &'a [i16],
     ref1: &[i8],
     mv1: &'a [i16],
     at: usize,
     stride: usize,
 ) -> bool
-    requires { ⌜ Hold (grids (now inter) (now nnz) (now «ref_id») (now mv) (now ref1) (now mv1)) (at + 3 * stride + 4) ⌝ }
-    ensures { λ r. ⌜ r ≡ every 4 (λ j. every 4 (λ k. sameMotion (blkAt (grids (now (inter .entry)) (now (nnz .entry)) (now («ref_id» .entry)) (now (mv .entry)) (now (ref1 .entry)) (now (mv1 .entry))) (at + j * stride + k)) (blkAt (grids (now (inter .entry)) (now (nnz .entry)) (now («ref_id» .entry)) (now (mv .entry)) (now (ref1 .entry)) (now (mv1 .entry))) at))) ⌝ }
+    requires { ⌜ Hold (grids (now inter) (now nnz) (now ref0) (now mv0) (now ref1) (now mv1)) (at + 3 * stride + 4) ⌝ }
+    ensures { λ r. ⌜ r ≡ every 4 (λ j. every 4 (λ k. sameMotion (blkAt (grids (now (inter .entry)) (now (nnz .entry)) (now (ref0 .entry)) (now (mv0 .entry)) (now (ref1 .entry)) (now (mv1 .entry))) (at + j * stride + k)) (blkAt (grids (now (inter .entry)) (now (nnz .entry)) (now (ref0 .entry)) (now (mv0 .entry)) (now (ref1 .entry)) (now (mv1 .entry))) at))) ⌝ }
 {
-    let first = load(inter, nnz, ref_id, mv, ref1, mv1, at);
+    let first = load(inter, nnz, ref0, mv0, ref1, mv1, at);
     let mut same = true;
     for j in 0..4usize {
-        same = same & row_same(first, inter, nnz, ref_id, mv, ref1, mv1, at + j * stride);
+        same = same & row_same(first, inter, nnz, ref0, mv0, ref1, mv1, at + j * stride);
     }
     same
 }
@@ -72,14 +72,14 @@ fn by_way(k: usize, a: usize, b: usize) -> usize
 }
 
 // The picture ends at byte k's edge, or the transform has no edge there.
-fn idle(t8: bool, x: usize, y: usize, k: usize) -> bool
+fn no_edge(t8: bool, x: usize, y: usize, k: usize) -> bool
     ensures { λ r. ⌜ r ≡ (border x y k || skipped t8 k) ⌝ }
 {
     let e = k / 4 % 4;
     ((e == 0) & (by_way(k, x, y) == 0)) | (t8 & (e % 2 == 1))
 }
 
-fn outer(p: Blk, q: Blk) -> u8
+fn outer_strength(p: Blk, q: Blk) -> u8
     ensures { λ r. ⌜ r ≡ between true p q ⌝ }
 {
     if p.inter & q.inter {
@@ -94,7 +94,7 @@ fn coefficients(p: Blk, q: Blk) -> u8
     if p.nz | q.nz { 2 } else { 0 }
 }
 
-fn inner(kind: MbKind, p: Blk, q: Blk) -> u8
+fn inner_strength(kind: MbKind, p: Blk, q: Blk) -> u8
     ensures { λ r. ⌜ r ≡ inside kind p q ⌝ }
 {
     match kind {
@@ -105,13 +105,13 @@ fn inner(kind: MbKind, p: Blk, q: Blk) -> u8
     }
 }
 
-fn across(kind: MbKind, first: bool, p: Blk, q: Blk) -> u8
+fn edge_strength(kind: MbKind, first: bool, p: Blk, q: Blk) -> u8
     ensures { λ r. ⌜ r ≡ acrossBy kind first p q ⌝ }
 {
     if first {
-        return outer(p, q);
+        return outer_strength(p, q);
     }
-    inner(kind, p, q)
+    inner_strength(kind, p, q)
 }
 
 fn q_block(at: usize, w: usize, k: usize) -> usize
@@ -134,26 +134,26 @@ fn strength_at<'a>(
     y: usize,
     inter: &[u8],
     nnz: &[u8],
-    ref_id: &[i8],
-    mv: &'a [i16],
+    ref0: &[i8],
+    mv0: &'a [i16],
     ref1: &[i8],
     mv1: &'a [i16],
     k: usize,
 ) -> u8
-    requires { ⌜ Hold (grids (now inter) (now nnz) (now «ref_id») (now mv) (now ref1) (now mv1)) (own w x y 3 3 + 1) ⌝ }
-    requires { ⌜ Inside w x y 589824 ⌝ }
+    requires { ⌜ Hold (grids (now inter) (now nnz) (now ref0) (now mv0) (now ref1) (now mv1)) (ownBlock w x y 3 3 + 1) ⌝ }
+    requires { ⌜ InGrids w x y 589824 ⌝ }
     requires { ⌜ k < 32 ⌝ }
-    ensures { λ r. ⌜ r ≡ strengthBy kind (grids (now (inter .entry)) (now (nnz .entry)) (now («ref_id» .entry)) (now (mv .entry)) (now (ref1 .entry)) (now (mv1 .entry))) w t8 x y k ⌝ }
+    ensures { λ r. ⌜ r ≡ strengthBy kind (grids (now (inter .entry)) (now (nnz .entry)) (now (ref0 .entry)) (now (mv0 .entry)) (now (ref1 .entry)) (now (mv1 .entry))) w t8 x y k ⌝ }
 {
-    if idle(t8, x, y, k) {
+    if no_edge(t8, x, y, k) {
         return 0;
     }
     let at = 16 * (y * w) + 4 * x;
     let q = q_block(at, w, k);
     let back = by_way(k, 1, 4 * w);
-    let b = load(inter, nnz, ref_id, mv, ref1, mv1, q);
-    let a = load(inter, nnz, ref_id, mv, ref1, mv1, q - back);
-    across(kind, k / 4 % 4 == 0, a, b)
+    let b = load(inter, nnz, ref0, mv0, ref1, mv1, q);
+    let a = load(inter, nnz, ref0, mv0, ref1, mv1, q - back);
+    edge_strength(kind, k / 4 % 4 == 0, a, b)
 }
 
 // All 32 bytes of macroblock (x, y).
@@ -165,20 +165,20 @@ pub fn derive<'a>(
     y: usize,
     inter: &[u8],
     nnz: &[u8],
-    ref_id: &[i8],
-    mv: &'a [i16],
+    ref0: &[i8],
+    mv0: &'a [i16],
     ref1: &[i8],
     mv1: &'a [i16],
     strengths: &mut [u8],
 )
-    requires { ⌜ Hold (grids (now inter) (now nnz) (now «ref_id») (now mv) (now ref1) (now mv1)) (own w x y 3 3 + 1) ⌝ }
-    requires { ⌜ Inside w x y 589824 ⌝ }
+    requires { ⌜ Hold (grids (now inter) (now nnz) (now ref0) (now mv0) (now ref1) (now mv1)) (ownBlock w x y 3 3 + 1) ⌝ }
+    requires { ⌜ InGrids w x y 589824 ⌝ }
     requires { ⌜ 32 * (y * w + x) + 32 ≤ length (now strengths) ⌝ }
-    ensures { λ _. ⌜ now (strengths .exit) ≡ written (y * w + x) (strengthBy kind (grids (now (inter .entry)) (now (nnz .entry)) (now («ref_id» .entry)) (now (mv .entry)) (now (ref1 .entry)) (now (mv1 .entry))) w t8 x y) (now (strengths .entry)) ⌝ }
+    ensures { λ _. ⌜ now (strengths .exit) ≡ written (y * w + x) (strengthBy kind (grids (now (inter .entry)) (now (nnz .entry)) (now (ref0 .entry)) (now (mv0 .entry)) (now (ref1 .entry)) (now (mv1 .entry))) w t8 x y) (now (strengths .entry)) ⌝ }
 {
     let i = 32 * (y * w + x);
     for k in 0..32usize {
-        let s = strength_at(kind, t8, w, x, y, inter, nnz, ref_id, mv, ref1, mv1, k);
+        let s = strength_at(kind, t8, w, x, y, inter, nnz, ref0, mv0, ref1, mv1, k);
         strengths[i + k] = s;
     }
 }

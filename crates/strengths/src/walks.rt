@@ -8,7 +8,7 @@ ghost use lib.IntN.{pos, negsuc};
 ghost use lib.ListN.{length, getD};
 ghost use lib.Signed.{ltZ};
 ghost use Rattle.laws.specs.Some.{some};
-ghost use Rattle.strengths.specs.Blocks.{beside};
+ghost use Rattle.strengths.specs.Blocks.{besideBlock};
 
 // Some of four bytes is above `top`.
 pub fn four_over(s: &[u8], at: usize, step: usize, top: u8) -> bool
@@ -91,7 +91,7 @@ pub fn own_differ(s: &[u8], at: usize, stride: usize) -> bool
 // The same beside a macroblock, where there is a neighbour: four places, the first `back` before `at`.
 pub fn beside_over(go: bool, s: &[u8], at: usize, back: usize, step: usize, top: u8) -> bool
     requires { ⌜ (go ≡ true → (back ≤ at) × (at - back + 3 * step < length (now s))) ⌝ }
-    ensures { λ r. ⌜ r ≡ (go && some 4 (λ k. ltb top (getD (now (s .entry)) (beside at back step k) 0))) ⌝ }
+    ensures { λ r. ⌜ r ≡ (go && some 4 (λ k. ltb top (getD (now (s .entry)) (besideBlock at back step k) 0))) ⌝ }
 {
     if go {
         return four_over(s, at - back, step, top);
@@ -101,7 +101,7 @@ pub fn beside_over(go: bool, s: &[u8], at: usize, back: usize, step: usize, top:
 
 pub fn beside_below(go: bool, s: &[i8], at: usize, back: usize, step: usize) -> bool
     requires { ⌜ (go ≡ true → (back ≤ at) × (at - back + 3 * step < length (now s))) ⌝ }
-    ensures { λ r. ⌜ r ≡ (go && some 4 (λ k. ltZ (getD (now (s .entry)) (beside at back step k) (negsuc 0)) (negsuc 0))) ⌝ }
+    ensures { λ r. ⌜ r ≡ (go && some 4 (λ k. ltZ (getD (now (s .entry)) (besideBlock at back step k) (negsuc 0)) (negsuc 0))) ⌝ }
 {
     if go {
         return four_below(s, at - back, step);
@@ -111,7 +111,7 @@ pub fn beside_below(go: bool, s: &[i8], at: usize, back: usize, step: usize) -> 
 
 pub fn beside_differ(go: bool, s: &[u8], at: usize, back: usize, step: usize) -> bool
     requires { ⌜ (go ≡ true → (back ≤ at) × (at - back + 3 * step < length (now s))) ⌝ }
-    ensures { λ r. ⌜ r ≡ (go && some 4 (λ k. not (eqb (getD (now (s .entry)) (beside at back step k) 0) (getD (now (s .entry)) (at - back) 0)))) ⌝ }
+    ensures { λ r. ⌜ r ≡ (go && some 4 (λ k. not (eqb (getD (now (s .entry)) (besideBlock at back step k) 0) (getD (now (s .entry)) (at - back) 0)))) ⌝ }
 {
     if go {
         return four_differ(s, at - back, step);

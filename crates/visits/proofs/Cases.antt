@@ -59,7 +59,7 @@ cases-hold = (λ i. square-asked i ++ column-asked i, tt)
 
 pub twelve-hold : Holds twelve
 unfolding lines.cases cases
-twelve-hold = holds-join lines.cases (motion.cases ++ cases) lines-proved.cases-hold (holds-join motion.cases cases motion-proved.cases-hold cases-hold)
+twelve-hold = holds-join lines.cases (motion.motionCases ++ cases) lines-proved.cases-hold (holds-join motion.motionCases cases motion-proved.cases-hold cases-hold)
 
 -- none is missing
 abbrev pub numberOf : Case → ℕ

@@ -34,4 +34,4 @@ cases = record { number = 12; given = asked faultGiven square ++ asked columnGiv
 
 -- document 01, "The proved table": P1 to P8, P9 to P11, P12
 abbrev pub twelve : List Case
-twelve = lines.cases ++ motion.cases ++ cases
+twelve = lines.cases ++ motion.motionCases ++ cases

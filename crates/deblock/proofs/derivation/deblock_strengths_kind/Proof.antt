@@ -4,7 +4,7 @@ use borrow.Author.Needs.{needs}
 use mathlib.Core.Path.{sym, _∙_}
 use mathlib.Core.Bool.{false}
 use Rattle.motion.specs.Grids.{Grids, grids}
-use Rattle.strengths.proofs.Outcomes.{refused, untrue-12}
+use Rattle.strengths.proofs.DeriveOutcomes.{refused, untrue-12}
 use Rattle.deblock.specs.Numbers.{sizeOf}
 use Rattle.deblock.proofs.Kept.{kind-kept, above, upto}
 use Rattle.deblock.proofs.derivation.deblock_strengths_kind.Statement.{statement}
@@ -17,13 +17,13 @@ returns : tie.Need-returns
 returns c =
     let s = c .before .before .before .before .before .before in
     let a = s .args in
-    refused (sizeOf (a .w) (a .h)) (a .x) (a .y) false (given s) _ (a .strengths .now) _ (c .before .refuse .ensures) (c .if2 .taken)
+    refused (sizeOf (a .w) (a .h)) (a .x) (a .y) false (given s) _ (a .strengths .now) _ (c .before .refuse-derive .ensures) (c .if2 .taken)
 
 returns-2 : tie.Need-returns-2
 returns-2 c =
     let s = c .before .before .before .before .before .before in
     let a = s .args in
-    untrue-12 (sizeOf (a .w) (a .h)) (a .x) (a .y) false (given s) _ (a .strengths .now) (sym (c .before .refuse .ensures) ∙ c .if2 .left) (above (sizeOf (a .w) (a .h)) (a .x) (a .y) (a .kind) (given s) (c .before .before .if1 .taken))
+    untrue-12 (sizeOf (a .w) (a .h)) (a .x) (a .y) false (given s) _ (a .strengths .now) (sym (c .before .refuse-derive .ensures) ∙ c .if2 .left) (above (sizeOf (a .w) (a .h)) (a .x) (a .y) (a .kind) (given s) (c .before .before .if1 .taken))
 
 returns-3 : tie.Need-returns-3
 returns-3 c =

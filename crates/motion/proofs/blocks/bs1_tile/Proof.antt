@@ -4,7 +4,7 @@ use native.Mathlib.Omega.{arith}
 use borrow.Author.Needs.{needs}
 use Rattle.motion.specs.Motion.{differ}
 use Rattle.motion.proofs.Differ.{by-number, by-none, by-one, by-two}
-use Rattle.motion.proofs.Used.{short-length, used-short, lists}
+use Rattle.motion.proofs.UsedList.{short-length, used-short, lists}
 use Rattle.motion.proofs.blocks.bs1_tile.Statement.{statement}
 use Rattle.motion.proofs.blocks.bs1_tile.Tie as tie
 

@@ -8,8 +8,8 @@ returns : tie.Need-returns
 unfolding sameMotion
 returns c =
     let m = c .before .before .before in
-    let f = rw (m .before .before .first .ensures, m .before .first2 .ensures) at (m .equal .ensures) in
-    let s = rw (c .before .before .second .ensures, c .before .second2 .ensures) at (c .equal2 .ensures) in
+    let f = rw (m .before .before .motion0 .ensures, m .before .motion02 .ensures) at (m .equal-motion .ensures) in
+    let s = rw (c .before .before .motion1 .ensures, c .before .motion12 .ensures) at (c .equal-motion2 .ensures) in
     simp (f, s)
 
 pub same-motion-spec : {M : Type 1} → statement M

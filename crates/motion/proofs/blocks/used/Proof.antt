@@ -5,15 +5,15 @@ use mathlib.Core.List.{[], _∷_, _++_}
 use borrow.Author.Needs.{needs}
 use lib.ListN.{length}
 use Rattle.motion.specs.Motion.{isUsed, used}
-use Rattle.motion.proofs.Used.{used-are}
+use Rattle.motion.proofs.UsedList.{used-are}
 use Rattle.motion.proofs.blocks.used.Statement.{statement}
 use Rattle.motion.proofs.blocks.used.Tie as tie
 
 -- where the tests answered s and t
-listed : (m : tie.After-is-used) {s t : Bool} → m .is-used .result ≡ s → isUsed (m .before .second .result) ≡ t
-    → used (m .before .before .before .args .b) ≡ cond s (m .before .before .first .result ∷ []) [] ++ cond t (m .before .second .result ∷ []) []
+listed : (m : tie.After-is-used) {s t : Bool} → m .is-used .result ≡ s → isUsed (m .before .motion1 .result) ≡ t
+    → used (m .before .before .before .args .b) ≡ cond s (m .before .before .motion0 .result ∷ []) [] ++ cond t (m .before .motion1 .result ∷ []) []
 listed m p q =
-    used-are (m .before .before .before .args .b) (m .before .before .first .ensures) (m .before .second .ensures) (sym (m .is-used .ensures) ∙ p) q
+    used-are (m .before .before .before .args .b) (m .before .before .motion0 .ensures) (m .before .motion1 .ensures) (sym (m .is-used .ensures) ∙ p) q
 
 returns : tie.Need-returns
 returns c =

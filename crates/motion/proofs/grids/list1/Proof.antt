@@ -3,7 +3,7 @@
 use native.Mathlib.Omega.{arith}
 use mir.Syntax.{w32}
 use Rattle.laws.proofs.Num.{result}
-use Rattle.motion.proofs.Read.{motion-none}
+use Rattle.motion.proofs.GridParts.{motion-none}
 use Rattle.motion.proofs.grids.list1.Statement.{statement}
 use Rattle.motion.proofs.grids.list1.Tie as tie
 

@@ -6,7 +6,7 @@ use Rattle.motion.proofs.grids.load.Tie as tie
 
 returns : tie.Need-returns
 unfolding blkAt
-returns c = simp (c .joined .ensures, c .before .before .before .before .list0 .ensures, c .before .before .before .list1 .ensures)
+returns c = simp (c .block-of .ensures, c .before .before .before .before .list0 .ensures, c .before .before .before .list1 .ensures)
 
 pub load-spec : {M : Type 1} → statement M
 load-spec =

@@ -8,12 +8,12 @@ use lib.IntN.{ℤ}
 use mir.Facts.{toZ-ofZ}
 use mir.Syntax.{w16}
 use Rattle.laws.proofs.Num.{result}
-use Rattle.motion.proofs.Read.{pair-length, pair-at}
+use Rattle.motion.proofs.GridParts.{pair-length, pair-at}
 use Rattle.motion.proofs.grids.vector_at.Statement.{statement}
 use Rattle.motion.proofs.grids.vector_at.Tie as tie
 
 abbrev grid : tie.Start → List ℤ
-grid s = cond (s .args .second) (s .args .mv1 .now) (s .args .mv .now)
+grid s = cond (s .args .second) (s .args .mv1 .now) (s .args .mv0 .now)
 
 shared-slice-copy-out-x : tie.Need-shared-slice-copy-out-x
 shared-slice-copy-out-x c = let s = c .before in omega (arith, pair-length (grid s) (s .args .i) (c .mv-at .ensures) (s .pre))

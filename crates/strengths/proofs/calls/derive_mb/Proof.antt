@@ -9,35 +9,35 @@ use lib.ListN.{length}
 use Rattle.laws.specs.Refusal.{refusal}
 use Rattle.laws.proofs.Grid.{index-lt}
 use Rattle.motion.specs.Grids.{Grids, grids}
-use Rattle.strengths.specs.Calls.{checks}
+use Rattle.strengths.specs.Calls.{deriveChecks}
 use Rattle.strengths.specs.Kinds.{isKind}
-use Rattle.strengths.specs.ByKind.{first, kindOf}
+use Rattle.strengths.specs.ByKind.{firstInter, kindOf}
 use Rattle.strengths.specs.declared.kinds.MbKind.{MbKind}
-use Rattle.strengths.proofs.Outcomes.{is-good, agrees, refused, done, flags-kind}
-use Rattle.strengths.proofs.Passed.{Good, inside-of, holds, small}
+use Rattle.strengths.proofs.DeriveOutcomes.{grids-fit-all, agrees, refused, done, flags-kind}
+use Rattle.strengths.proofs.GridsFit.{GridsFit, inside-of, holds, small}
 use Rattle.strengths.proofs.calls.derive_mb.Statement.{statement}
 use Rattle.strengths.proofs.calls.derive_mb.Tie as tie
 
 abbrev given : tie.Start → Grids
-given c = let a = c .args in grids (a .inter .now) (a .nnz .now) (a .ref-id .now) (a .mv .now) (a .ref1 .now) (a .mv1 .now)
+given c = let a = c .args in grids (a .inter .now) (a .nnz .now) (a .ref0 .now) (a .mv0 .now) (a .ref1 .now) (a .mv1 .now)
 
 -- where the call goes on after checks 1 to 11
 abbrev start : tie.Else1 → tie.Start
 start c = c .before .before .before .before .before
 
-zero : (c : tie.Else1) → let s = start c in let a = s .args in refusal (checks (a .size) (a .p .x) (a .p .y) (given s) (length (a .strengths .now))) ≡ 0
-zero c = sym (c .before .refuse .ensures) ∙ c .if1 .left
+zero : (c : tie.Else1) → let s = start c in let a = s .args in refusal (deriveChecks (a .size) (a .p .x) (a .p .y) (given s) (length (a .strengths .now))) ≡ 0
+zero c = sym (c .before .refuse-derive .ensures) ∙ c .if1 .left
 
-ok : (c : tie.Else1) → let s = start c in let a = s .args in Good (a .size) (a .p .x) (a .p .y) (given s) (length (a .strengths .now))
-ok c = let s = start c in let a = s .args in is-good (a .size) (a .p .x) (a .p .y) (given s) (length (a .strengths .now)) (zero c)
+ok : (c : tie.Else1) → let s = start c in let a = s .args in GridsFit (a .size) (a .p .x) (a .p .y) (given s) (length (a .strengths .now))
+ok c = let s = start c in let a = s .args in grids-fit-all (a .size) (a .p .x) (a .p .y) (given s) (length (a .strengths .now)) (zero c)
 
 room : (c : tie.Else1) → let a = start c .args in 32 * (a .p .y * a .size .w + a .p .x) + 32 ≤ length (a .strengths .now)
 room c = let a = start c .args in let g = ok c in omega (arith, index-lt (a .size .w) (a .size .h) (a .p .x) (a .p .y) (g .column) (g .line), g .strengths)
 
 returns : tie.Need-returns
-returns c = let s = c .before .before .before .before .before in let a = s .args in refused (a .size) (a .p .x) (a .p .y) (a .p .t8) (given s) false (a .strengths .now) _ (c .before .refuse .ensures) (c .if1 .taken)
+returns c = let s = c .before .before .before .before .before in let a = s .args in refused (a .size) (a .p .x) (a .p .y) (a .p .t8) (given s) false (a .strengths .now) _ (c .before .refuse-derive .ensures) (c .if1 .taken)
 
-inter : tie.Need-is-inter-requires
+inter : tie.Need-first-inter-requires
 inter c κs =
     let s = start c in
     let a = s .args in
@@ -56,7 +56,7 @@ true-kind c =
     let e = c .before .before in
     let s = start e in
     let a = s .args in
-    ap (λ (k : MbKind). isKind (given s) (a .size .w) (a .p .x) (a .p .y) k) (c .kind-of .ensures ∙ ap (λ (b : Bool). kindOf b false false) (c .before .is-inter .ensures))
+    ap (λ (k : MbKind). isKind (given s) (a .size .w) (a .p .x) (a .p .y) k) (c .kind-of .ensures ∙ ap (λ (b : Bool). kindOf b false false) (c .before .first-inter .ensures))
     ∙ flags-kind (given s) (a .size .w) (a .p .x) (a .p .y) (agrees (a .size) (a .p .x) (a .p .y) (given s) (length (a .strengths .now)) (zero e)) false false refl
 
 returns-2 : tie.Need-returns-2

@@ -9,30 +9,30 @@ use lib.ListN.{length}
 use Rattle.laws.specs.Refusal.{refusal}
 use Rattle.laws.proofs.Grid.{index-lt}
 use Rattle.motion.specs.Grids.{Grids, grids}
-use Rattle.strengths.specs.Calls.{checks}
-use Rattle.strengths.proofs.Outcomes.{is-good, agrees, refused, untrue-12, done}
-use Rattle.strengths.proofs.Passed.{Good, holds, small}
+use Rattle.strengths.specs.Calls.{deriveChecks}
+use Rattle.strengths.proofs.DeriveOutcomes.{grids-fit-all, agrees, refused, untrue-12, done}
+use Rattle.strengths.proofs.GridsFit.{GridsFit, holds, small}
 use Rattle.strengths.proofs.calls.derive_mb_kind.Statement.{statement}
 use Rattle.strengths.proofs.calls.derive_mb_kind.Tie as tie
 
 abbrev given : tie.Start → Grids
-given c = let a = c .args in grids (a .inter .now) (a .nnz .now) (a .ref-id .now) (a .mv .now) (a .ref1 .now) (a .mv1 .now)
+given c = let a = c .args in grids (a .inter .now) (a .nnz .now) (a .ref0 .now) (a .mv0 .now) (a .ref1 .now) (a .mv1 .now)
 
 -- where the call goes on after checks 1 to 11
 abbrev start : tie.Else1 → tie.Start
 start c = c .before .before .before .before .before
 
-zero : (c : tie.Else1) → let s = start c in let a = s .args in refusal (checks (a .size) (a .r .x) (a .r .y) (given s) (length (a .strengths .now))) ≡ 0
-zero c = sym (c .before .refuse .ensures) ∙ c .if1 .left
+zero : (c : tie.Else1) → let s = start c in let a = s .args in refusal (deriveChecks (a .size) (a .r .x) (a .r .y) (given s) (length (a .strengths .now))) ≡ 0
+zero c = sym (c .before .refuse-derive .ensures) ∙ c .if1 .left
 
-ok : (c : tie.Else1) → let s = start c in let a = s .args in Good (a .size) (a .r .x) (a .r .y) (given s) (length (a .strengths .now))
-ok c = let s = start c in let a = s .args in is-good (a .size) (a .r .x) (a .r .y) (given s) (length (a .strengths .now)) (zero c)
+ok : (c : tie.Else1) → let s = start c in let a = s .args in GridsFit (a .size) (a .r .x) (a .r .y) (given s) (length (a .strengths .now))
+ok c = let s = start c in let a = s .args in grids-fit-all (a .size) (a .r .x) (a .r .y) (given s) (length (a .strengths .now)) (zero c)
 
 room : (c : tie.Else1) → let a = start c .args in 32 * (a .r .y * a .size .w + a .r .x) + 32 ≤ length (a .strengths .now)
 room c = let a = start c .args in let g = ok c in omega (arith, index-lt (a .size .w) (a .size .h) (a .r .x) (a .r .y) (g .column) (g .line), g .strengths)
 
 returns : tie.Need-returns
-returns c = let s = c .before .before .before .before .before in let a = s .args in refused (a .size) (a .r .x) (a .r .y) false (given s) _ (a .strengths .now) _ (c .before .refuse .ensures) (c .if1 .taken)
+returns c = let s = c .before .before .before .before .before in let a = s .args in refused (a .size) (a .r .x) (a .r .y) false (given s) _ (a .strengths .now) _ (c .before .refuse-derive .ensures) (c .if1 .taken)
 
 kind : tie.Need-is-kind-requires
 kind c κs =

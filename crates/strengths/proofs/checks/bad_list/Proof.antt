@@ -9,7 +9,7 @@ use lib.IntN.{ℤ, negsuc}
 use lib.ListN.{length, List·getD-eq-default}
 use lib.Signed.{ltZ}
 use Rattle.laws.proofs.Some.{some-idle}
-use Rattle.strengths.specs.Blocks.{own, left, above, someRead}
+use Rattle.strengths.specs.Blocks.{ownBlock, leftBlock, aboveBlock, someRead}
 use Rattle.strengths.specs.Checks.{belowNone}
 use Rattle.strengths.proofs.checks.bad_list.Statement.{statement}
 use Rattle.strengths.proofs.checks.bad_list.Tie as tie
@@ -18,7 +18,7 @@ use Rattle.strengths.proofs.checks.bad_list.Tie as tie
 idle : (w x y : ℕ) (f : ℕ → Bool) → ((i : ℕ) → f i ≡ false) → someRead w x y f ≡ false
 unfolding someRead
 idle w x y f h =
-    rw (some-idle 4 _ (λ r. some-idle 4 (λ c. f (own w x y r c)) (λ c. h _)), some-idle 4 (λ k. f (left w x y k)) (λ k. h _), some-idle 4 (λ k. f (above w x y k)) (λ k. h _))
+    rw (some-idle 4 _ (λ r. some-idle 4 (λ c. f (ownBlock w x y r c)) (λ c. h _)), some-idle 4 (λ k. f (leftBlock w x y k)) (λ k. h _), some-idle 4 (λ k. f (aboveBlock w x y k)) (λ k. h _))
     (neither (ltb 0 x) (ltb 0 y))
   where
     neither : (s t : Bool) → (false || (s && false) || (t && false)) ≡ false

@@ -13,7 +13,7 @@ use Rattle.strengths.proofs.derive.strength_at.Statement.{statement}
 use Rattle.strengths.proofs.derive.strength_at.Tie as tie
 
 busy : (c : tie.Else1) → let a = c .before .before .before .before .args in (border (a .x) (a .y) (a .k) || skipped (a .t8) (a .k)) ≡ false
-busy c = sym (c .before .idle .ensures) ∙ c .if1 .left
+busy c = sym (c .before .no-edge .ensures) ∙ c .if1 .left
 
 -- there is a block across the edge
 fits : (c : tie.After-by-way) → c .by-way .result ≤ c .before .q-block .result
@@ -27,14 +27,14 @@ most c = c .q-block .ensures .1
 
 returns : tie.Need-returns
 unfolding strengthBy
-returns c = simp (sym (c .before .idle .ensures) ∙ c .if1 .taken)
+returns c = simp (sym (c .before .no-edge .ensures) ∙ c .if1 .taken)
 
 returns-2 : tie.Need-returns-2
 unfolding strengthBy
 returns-2 c =
     let e = c .before .before .before .before .before in
     simp (busy e)
-    (rw (c .before .load2 .ensures, c .before .before .load .ensures, c .before .before .before .by-way .ensures, c .before .before .before .before .q-block .ensures .0) at (c .across .ensures))
+    (rw (c .before .load2 .ensures, c .before .before .load .ensures, c .before .before .before .by-way .ensures, c .before .before .before .before .q-block .ensures .0) at (c .edge-strength .ensures))
 
 pub strength-at-spec : {M : Type 1} → statement M
 strength-at-spec =

@@ -14,14 +14,14 @@ use Rattle.laws.proofs.Grid.{row-fits}
 use Rattle.laws.proofs.Refusal.{passes}
 use Rattle.motion.specs.Grids.{Grids}
 use Rattle.motion.specs.Inner.{Optional, Hold}
-use Rattle.strengths.specs.Blocks.{own}
-use Rattle.strengths.specs.Inner.{Inside}
+use Rattle.strengths.specs.Blocks.{ownBlock}
+use Rattle.strengths.specs.Inner.{InGrids}
 use Rattle.strengths.specs.Checks.{badSize}
-use Rattle.strengths.specs.Calls.{numbers}
+use Rattle.strengths.specs.Calls.{lengthChecks}
 use Rattle.edges.specs.declared.Size.{Size}
 use Rattle.strengths.proofs.Sized.{Sized, sized}
 
-pub record Good (size : Size) (x y : ℕ) (g : Grids) (n : ℕ) : Type 0 where
+pub record GridsFit (size : Size) (x y : ℕ) (g : Grids) (n : ℕ) : Type 0 where
   pub sides : Sized size
   pub column : x < size .w
   pub line : y < size .h
@@ -32,18 +32,18 @@ pub record Good (size : Size) (x y : ℕ) (g : Grids) (n : ℕ) : Type 0 where
   pub vectors : length (g .mv0) ≡ 2 * (16 * (size .w * size .h))
   pub list1 : ((length (g .ref1) ≡ 0) × (length (g .mv1) ≡ 0)) ⊎ ((length (g .ref1) ≡ 16 * (size .w * size .h)) × (length (g .mv1) ≡ 2 * (16 * (size .w * size .h))))
 
-pub good : (size : Size) (x y : ℕ) (g : Grids) (n : ℕ) → refusal (numbers size x y g n) ≡ 0 → Good size x y g n
-good size x y g n e =
-    let o = or-false (leb (size .w) x) (leb (size .h) y) (passes 2 (numbers size x y g n) tt e) in
-    let a = or-false _ _ (passes 5 (numbers size x y g n) tt e) in
+pub grids-fit : (size : Size) (x y : ℕ) (g : Grids) (n : ℕ) → refusal (lengthChecks size x y g n) ≡ 0 → GridsFit size x y g n
+grids-fit size x y g n e =
+    let o = or-false (leb (size .w) x) (leb (size .h) y) (passes 2 (lengthChecks size x y g n) tt e) in
+    let a = or-false _ _ (passes 5 (lengthChecks size x y g n) tt e) in
     let b = or-false _ _ (a .0) in
     let c = or-false _ _ (b .0) in
     let d = or-false _ _ (c .0) in
     record {
-      sides = sized size (passes 1 (numbers size x y g n) tt e);
+      sides = sized size (passes 1 (lengthChecks size x y g n) tt e);
       column = leb-false (size .w) x (o .0);
       line = leb-false (size .h) y (o .1);
-      strengths = equal _ _ (passes 4 (numbers size x y g n) tt e);
+      strengths = equal _ _ (passes 4 (lengthChecks size x y g n) tt e);
       inters = equal _ _ (d .0);
       counts = equal _ _ (d .1);
       refs = equal _ _ (c .1);
@@ -58,17 +58,17 @@ good size x y g n e =
         (λ h. let q = and-true (eqb r k) (eqb m (2 * k)) h in inr (eqb-true r k (q .0), eqb-true m (2 * k) (q .1)))
         (or-true (eqb r 0 && eqb m 0) (eqb r k && eqb m (2 * k)) f)
 
-module _ (size : Size) (x y : ℕ) (g : Grids) (n : ℕ) (h : Good size x y g n) where
-  last : own (size .w) x y 3 3 < 16 * (size .w * size .h)
+module _ (size : Size) (x y : ℕ) (g : Grids) (n : ℕ) (h : GridsFit size x y g n) where
+  last : ownBlock (size .w) x y 3 3 < 16 * (size .w * size .h)
   last = let c = h .column in let f = row-fits y (size .w) (size .h) (h .line) in omega arith
 
-  pub inside-of : (k : ℕ) → 16 * (size .w * size .h) ≤ k → Inside (size .w) x y k
+  pub inside-of : (k : ℕ) → 16 * (size .w * size .h) ≤ k → InGrids (size .w) x y k
   inside-of k l = record { column = h .column; last = omega (arith, last) }
 
-  pub small : Inside (size .w) x y 589824
+  pub small : InGrids (size .w) x y 589824
   small = inside-of 589824 (omega (arith, h .sides .most))
 
-  pub holds : Hold g (own (size .w) x y 3 3 + 1)
+  pub holds : Hold g (ownBlock (size .w) x y 3 3 + 1)
   holds =
       let a = h .inters in
       let b = h .counts in
@@ -77,20 +77,20 @@ module _ (size : Size) (x y : ℕ) (g : Grids) (n : ℕ) (h : Good size x y g n)
       let l = last in
       record { inters = omega arith; counts = omega arith; refs = omega arith; vectors = omega arith; list1 = ⊎-elim none full (h .list1) }
     where
-      none : (length (g .ref1) ≡ 0) × (length (g .mv1) ≡ 0) → Optional (g .ref1) (g .mv1) (own (size .w) x y 3 3 + 1)
+      none : (length (g .ref1) ≡ 0) × (length (g .mv1) ≡ 0) → Optional (g .ref1) (g .mv1) (ownBlock (size .w) x y 3 3 + 1)
       none e = record { empty = λ k. e .1; full = λ k. absurd (no (e .0) k) }
         where
           no : length (g .ref1) ≡ 0 → 0 < length (g .ref1) → ⊥
           no p q = omega arith
 
-      full : (length (g .ref1) ≡ 16 * (size .w * size .h)) × (length (g .mv1) ≡ 2 * (16 * (size .w * size .h))) → Optional (g .ref1) (g .mv1) (own (size .w) x y 3 3 + 1)
+      full : (length (g .ref1) ≡ 16 * (size .w * size .h)) × (length (g .mv1) ≡ 2 * (16 * (size .w * size .h))) → Optional (g .ref1) (g .mv1) (ownBlock (size .w) x y 3 3 + 1)
       full e = record { empty = λ k. absurd (no (e .0) k last); full = λ k. (omega (arith, e .0, last), omega (arith, e .1, last)) }
         where
-          no : length (g .ref1) ≡ 16 * (size .w * size .h) → length (g .ref1) ≡ 0 → own (size .w) x y 3 3 < 16 * (size .w * size .h) → ⊥
+          no : length (g .ref1) ≡ 16 * (size .w * size .h) → length (g .ref1) ≡ 0 → ownBlock (size .w) x y 3 3 < 16 * (size .w * size .h) → ⊥
           no p q r = omega arith
 
   -- list 1 by itself, where it is lent
-  pub list1-inside : 0 < length (g .ref1) → Inside (size .w) x y (length (g .ref1))
+  pub list1-inside : 0 < length (g .ref1) → InGrids (size .w) x y (length (g .ref1))
   list1-inside k = ⊎-elim (λ e. absurd (no (e .0) k)) (λ e. inside-of (length (g .ref1)) (omega (arith, e .0))) (h .list1)
     where
       no : length (g .ref1) ≡ 0 → 0 < length (g .ref1) → ⊥

@@ -1,4 +1,4 @@
--- `refuse`: each return is the first check of the list that applies. Assumes nothing.
+-- `refuse_derive`: each return is the first check of the list that applies. Assumes nothing.
 use borrow.Author.Needs.{needs}
 use borrow.Author.Tests.{ne-eqb, eq-eqb}
 use mathlib.Core.Path.{_≡_, sym, ap, _∙_}
@@ -8,38 +8,38 @@ use native.Mathlib.Omega.{arith}
 use lib.Dec.{eqb}
 use Rattle.laws.specs.Refusal.{refusal}
 use Rattle.motion.specs.Grids.{Grids, grids}
-use Rattle.strengths.specs.Calls.{numbers, blocks, checks}
+use Rattle.strengths.specs.Calls.{lengthChecks, blockChecks, deriveChecks}
 use Rattle.edges.specs.declared.Size.{Size}
-use Rattle.strengths.proofs.Outcomes.{checks-cut}
-use Rattle.strengths.proofs.Passed.{Good, good, inside-of, list1-inside}
-use Rattle.strengths.proofs.checks.refuse.Statement.{statement}
-use Rattle.strengths.proofs.checks.refuse.Tie as tie
+use Rattle.strengths.proofs.DeriveOutcomes.{checks-cut}
+use Rattle.strengths.proofs.GridsFit.{GridsFit, grids-fit, inside-of, list1-inside}
+use Rattle.strengths.proofs.checks.refuse_derive.Statement.{statement}
+use Rattle.strengths.proofs.checks.refuse_derive.Tie as tie
 
 abbrev given : tie.Start → Grids
-given c = let a = c .args in grids (a .inter .now) (a .nnz .now) (a .ref-id .now) (a .mv .now) (a .ref1 .now) (a .mv1 .now)
+given c = let a = c .args in grids (a .inter .now) (a .nnz .now) (a .ref0 .now) (a .mv0 .now) (a .ref1 .now) (a .mv1 .now)
 
 -- the first four checks have passed
 abbrev start : tie.Else1 → tie.Start
 start c = c .before .before .before .before
 
-zero : (c : tie.Else1) → let s = start c in refusal (numbers (s .args .size) (s .args .x) (s .args .y) (given s) (s .args .strengths)) ≡ 0
-zero c = sym (c .before .bad-numbers .ensures) ∙ c .if1 .left
+zero : (c : tie.Else1) → let s = start c in refusal (lengthChecks (s .args .size) (s .args .x) (s .args .y) (given s) (s .args .strengths)) ≡ 0
+zero c = sym (c .before .refuse-lengths .ensures) ∙ c .if1 .left
 
-ok : (c : tie.Else1) → let s = start c in Good (s .args .size) (s .args .x) (s .args .y) (given s) (s .args .strengths)
-ok c = let s = start c in good (s .args .size) (s .args .x) (s .args .y) (given s) (s .args .strengths) (zero c)
+ok : (c : tie.Else1) → let s = start c in GridsFit (s .args .size) (s .args .x) (s .args .y) (given s) (s .args .strengths)
+ok c = let s = start c in grids-fit (s .args .size) (s .args .x) (s .args .y) (given s) (s .args .strengths) (zero c)
 
 -- then the others decide
-rest : (c : tie.Else1) {n : ℕ} → let s = start c in n ≡ refusal (blocks (s .args .size) (s .args .x) (s .args .y) (given s))
-    → n ≡ refusal (checks (s .args .size) (s .args .x) (s .args .y) (given s) (s .args .strengths))
+rest : (c : tie.Else1) {n : ℕ} → let s = start c in n ≡ refusal (blockChecks (s .args .size) (s .args .x) (s .args .y) (given s))
+    → n ≡ refusal (deriveChecks (s .args .size) (s .args .x) (s .args .y) (given s) (s .args .strengths))
 rest c {n} e =
     let s = start c in
-    e ∙ sym (checks-cut (s .args .size) (s .args .x) (s .args .y) (given s) (s .args .strengths) ∙ ap (λ (k : ℕ). cond (eqb k 0) (refusal (blocks (s .args .size) (s .args .x) (s .args .y) (given s))) k) (zero c))
+    e ∙ sym (checks-cut (s .args .size) (s .args .x) (s .args .y) (given s) (s .args .strengths) ∙ ap (λ (k : ℕ). cond (eqb k 0) (refusal (blockChecks (s .args .size) (s .args .x) (s .args .y) (given s))) k) (zero c))
 
 returns : tie.Need-returns
 returns c =
     let s = c .before .before .before .before in
-    let e = c .before .bad-numbers .ensures in
-    e ∙ sym (checks-cut (s .args .size) (s .args .x) (s .args .y) (given s) (s .args .strengths) ∙ ap (λ (b : Bool). cond b (refusal (blocks (s .args .size) (s .args .x) (s .args .y) (given s))) (refusal (numbers (s .args .size) (s .args .x) (s .args .y) (given s) (s .args .strengths)))) (ne-eqb _ 0 (λ k. c .if1 .taken (e ∙ k))))
+    let e = c .before .refuse-lengths .ensures in
+    e ∙ sym (checks-cut (s .args .size) (s .args .x) (s .args .y) (given s) (s .args .strengths) ∙ ap (λ (b : Bool). cond b (refusal (blockChecks (s .args .size) (s .args .x) (s .args .y) (given s))) (refusal (lengthChecks (s .args .size) (s .args .x) (s .args .y) (given s) (s .args .strengths)))) (ne-eqb _ 0 (λ k. c .if1 .taken (e ∙ k))))
 
 returns-2 : tie.Need-returns-2
 returns-2 c = rest (c .before .before) (simp (sym (c .before .bad-inter .ensures) ∙ c .if2 .taken))
@@ -89,8 +89,8 @@ agree c κs =
     let s = start e in
     inside-of (s .args .size) (s .args .x) (s .args .y) (given s) (s .args .strengths) (ok e) _ (omega (arith, ok e .inters))
 
-pub refuse-spec : {M : Type 1} → statement M
-refuse-spec =
+pub refuse-derive-spec : {M : Type 1} → statement M
+refuse-derive-spec =
     tie.close
     (tie.spec
     (λ c κs. search needs)

@@ -1,4 +1,4 @@
--- `bad_numbers`: each return is the first check of the list that applies. Assumes nothing.
+-- `refuse_lengths`: each return is the first check of the list that applies. Assumes nothing.
 use borrow.Author.Needs.{needs}
 use borrow.Author.Tests.{eq-eqb, ne-eqb}
 use mathlib.Core.Path.{_≡_, sym, _∙_}
@@ -6,8 +6,8 @@ use mathlib.Core.Bool.{false}
 use native.Mathlib.Omega.{arith}
 use Rattle.strengths.specs.Checks.{badSize}
 use Rattle.strengths.proofs.Sized.{Sized, sized}
-use Rattle.strengths.proofs.checks.bad_numbers.Statement.{statement}
-use Rattle.strengths.proofs.checks.bad_numbers.Tie as tie
+use Rattle.strengths.proofs.checks.refuse_lengths.Statement.{statement}
+use Rattle.strengths.proofs.checks.refuse_lengths.Tie as tie
 
 ok : (c : tie.Else1) → badSize (c .before .before .args .size) ≡ false
 ok c = sym (c .before .bad-size .ensures) ∙ c .if1 .left
@@ -28,8 +28,8 @@ returns-5 c =
     let k = c .before .before in
     simp (ok (k .before .before), k .before .if2 .left, eq-eqb _ _ (k .if3 .left), sym (c .before .bad-lengths .ensures) ∙ c .if4 .left)
 
-pub bad-numbers-spec : {M : Type 1} → statement M
-bad-numbers-spec =
+pub refuse-lengths-spec : {M : Type 1} → statement M
+refuse-lengths-spec =
     tie.close
     (tie.spec
     (λ c κs. search needs)

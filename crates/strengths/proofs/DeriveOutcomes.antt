@@ -14,60 +14,60 @@ use Rattle.motion.specs.Grids.{Grids}
 use Rattle.strengths.specs.Checks.{disagree}
 use Rattle.strengths.specs.Strength.{strengthAt, written}
 use Rattle.strengths.specs.Kinds.{uniform, flat, isKind}
-use Rattle.strengths.specs.ByKind.{first, strengthBy, kindOf}
-use Rattle.strengths.specs.Calls.{numbers, blocks, checks, answerOf, untrueKind, untrueFlags, Outcome, KindOutcome, FlagsOutcome, PlainOutcome}
+use Rattle.strengths.specs.ByKind.{firstInter, strengthBy, kindOf}
+use Rattle.strengths.specs.Calls.{lengthChecks, blockChecks, deriveChecks, answerOf, untrueKind, untrueFlags, DeriveOutcome, KindOutcome, FlagsOutcome, PlainOutcome}
 use Rattle.strengths.specs.declared.kinds.MbKind.{MbKind}
 use Rattle.strengths.specs.declared.kinds.MbKind.the-variants.{Intra, Skip, InterUniform, Inter}
 use Rattle.edges.specs.declared.Size.{Size}
 use Rattle.strengths.specs.declared.kinds.Flagged.{Flagged}
 use Rattle.strengths.specs.declared.kinds.Plain.{Plain}
 use Rattle.strengths.specs.declared.kinds.Request.{Request}
-use Rattle.strengths.proofs.Agreed.{inter-is, intra-is}
+use Rattle.strengths.proofs.InterAgrees.{inter-is, intra-is}
 use Rattle.strengths.proofs.ByKind.{kind-is}
-use Rattle.strengths.proofs.Passed.{Good, good}
+use Rattle.strengths.proofs.GridsFit.{GridsFit, grids-fit}
 use Rattle.laws.proofs.Bools.{or-false}
 
 module _ (size : Size) (x y : ℕ) (g : Grids) (n : ℕ) where
   -- ---- what is known once checks 1 to 11 have passed
-  pub is-good : refusal (checks size x y g n) ≡ 0 → Good size x y g n
-  is-good e = good size x y g n (refusal-left (numbers size x y g n) (blocks size x y g) tt e)
+  pub grids-fit-all : refusal (deriveChecks size x y g n) ≡ 0 → GridsFit size x y g n
+  grids-fit-all e = grids-fit size x y g n (refusal-left (lengthChecks size x y g n) (blockChecks size x y g) tt e)
 
-  pub agrees : refusal (checks size x y g n) ≡ 0 → disagree (g .inter) (size .w) x y ≡ false
+  pub agrees : refusal (deriveChecks size x y g n) ≡ 0 → disagree (g .inter) (size .w) x y ≡ false
   agrees e =
-      passes 11 (checks size x y g n) tt e
+      passes 11 (deriveChecks size x y g n) tt e
 
   -- ---- the answer, by the checks before 12
-  answer-cut : (untrue : Bool) → answerOf size x y g untrue n ≡ cond (eqb (refusal (checks size x y g n)) 0) (cond untrue 12 0) (refusal (checks size x y g n))
+  answer-cut : (untrue : Bool) → answerOf size x y g untrue n ≡ cond (eqb (refusal (deriveChecks size x y g n)) 0) (cond untrue 12 0) (refusal (deriveChecks size x y g n))
   unfolding answerOf
-  answer-cut untrue = refusal-cut (checks size x y g n) ((12, untrue) ∷ []) tt
+  answer-cut untrue = refusal-cut (deriveChecks size x y g n) ((12, untrue) ∷ []) tt
 
   -- the checks may be made in two parts
-  pub checks-cut : refusal (checks size x y g n) ≡ cond (eqb (refusal (numbers size x y g n)) 0) (refusal (blocks size x y g)) (refusal (numbers size x y g n))
-  checks-cut = refusal-cut (numbers size x y g n) (blocks size x y g) tt
+  pub checks-cut : refusal (deriveChecks size x y g n) ≡ cond (eqb (refusal (lengthChecks size x y g n)) 0) (refusal (blockChecks size x y g)) (refusal (lengthChecks size x y g n))
+  checks-cut = refusal-cut (lengthChecks size x y g n) (blockChecks size x y g) tt
 
 module _ (size : Size) (x y : ℕ) (t8 : Bool) (g : Grids) (untrue : Bool) (s : List ℕ) where
-  pub refused : (n : ℕ) → n ≡ refusal (checks size x y g (length s)) → (n ≡ 0 → ⊥) → Outcome size x y t8 g untrue s n s
+  pub refused : (n : ℕ) → n ≡ refusal (deriveChecks size x y g (length s)) → (n ≡ 0 → ⊥) → DeriveOutcome size x y t8 g untrue s n s
   refused n e h = record {
-    says = e ∙ sym (answer-cut size x y g (length s) untrue ∙ ap (λ (b : Bool). cond b (cond untrue 12 0) (refusal (checks size x y g (length s)))) (ne-eqb _ 0 (λ k. h (e ∙ k))));
+    says = e ∙ sym (answer-cut size x y g (length s) untrue ∙ ap (λ (b : Bool). cond b (cond untrue 12 0) (refusal (deriveChecks size x y g (length s)))) (ne-eqb _ 0 (λ k. h (e ∙ k))));
     leaves = rw (ne-eqb n 0 h);
   }
 
-  pub untrue-12 : refusal (checks size x y g (length s)) ≡ 0 → untrue ≡ true → Outcome size x y t8 g untrue s 12 s
+  pub untrue-12 : refusal (deriveChecks size x y g (length s)) ≡ 0 → untrue ≡ true → DeriveOutcome size x y t8 g untrue s 12 s
   untrue-12 e u = record {
     says = sym (answer-cut size x y g (length s) untrue ∙ (λ i. cond (eqb (e i) 0) (cond (u i) 12 0) (e i)));
     leaves = refl;
   }
 
   -- done by a kind that is true
-  pub done : (kind : MbKind) (s′ : List ℕ) → refusal (checks size x y g (length s)) ≡ 0 → untrue ≡ false → isKind g (size .w) x y kind ≡ true
-      → s′ ≡ written (y * size .w + x) (strengthBy kind g (size .w) t8 x y) s → Outcome size x y t8 g untrue s 0 s′
+  pub done : (kind : MbKind) (s′ : List ℕ) → refusal (deriveChecks size x y g (length s)) ≡ 0 → untrue ≡ false → isKind g (size .w) x y kind ≡ true
+      → s′ ≡ written (y * size .w + x) (strengthBy kind g (size .w) t8 x y) s → DeriveOutcome size x y t8 g untrue s 0 s′
   done kind s′ e u k w = record {
     says = sym (answer-cut size x y g (length s) untrue ∙ (λ i. cond (eqb (e i) 0) (cond (u i) 12 0) (e i)));
     leaves = w ∙ (λ i. written (y * size .w + x) (λ (b : ℕ). kind-is g (size .w) x y (agrees size x y g (length s) e) kind k t8 b i) s);
   }
 
   -- two outcomes that the promise allows are equal
-  pub unique : (n m : ℕ) (s₁ s₂ : List ℕ) → Outcome size x y t8 g untrue s n s₁ → Outcome size x y t8 g untrue s m s₂ → (n ≡ m) × (s₁ ≡ s₂)
+  pub unique : (n m : ℕ) (s₁ s₂ : List ℕ) → DeriveOutcome size x y t8 g untrue s n s₁ → DeriveOutcome size x y t8 g untrue s m s₂ → (n ≡ m) × (s₁ ≡ s₂)
   unique n m s₁ s₂ a b =
       let e = a .says ∙ sym (b .says) in
       (e, a .leaves ∙ ap (λ (k : ℕ). cond (eqb k 0) (written (y * size .w + x) (strengthAt g (size .w) t8 x y) s) s) e ∙ sym (b .leaves))
@@ -75,17 +75,17 @@ module _ (size : Size) (x y : ℕ) (t8 : Bool) (g : Grids) (untrue : Bool) (s : 
 -- ---- what is known of a macroblock changes nothing: a call with a kind or flags that is done leaves what
 -- the flagless call leaves, which is done too
 module _ (size : Size) (x y : ℕ) (t8 : Bool) (g : Grids) (untrue : Bool) (s : List ℕ) where
-  passed-all : answerOf size x y g untrue (length s) ≡ 0 → refusal (checks size x y g (length s)) ≡ 0
-  passed-all e = go (ℕ-discrete (refusal (checks size x y g (length s))) 0)
+  passed-all : answerOf size x y g untrue (length s) ≡ 0 → refusal (deriveChecks size x y g (length s)) ≡ 0
+  passed-all e = go (ℕ-discrete (refusal (deriveChecks size x y g (length s))) 0)
     where
-      cut : cond (eqb (refusal (checks size x y g (length s))) 0) (cond untrue 12 0) (refusal (checks size x y g (length s))) ≡ 0
+      cut : cond (eqb (refusal (deriveChecks size x y g (length s))) 0) (cond untrue 12 0) (refusal (deriveChecks size x y g (length s))) ≡ 0
       cut = sym (answer-cut size x y g (length s) untrue) ∙ e
 
-      go : Dec (refusal (checks size x y g (length s)) ≡ 0) → refusal (checks size x y g (length s)) ≡ 0
+      go : Dec (refusal (deriveChecks size x y g (length s)) ≡ 0) → refusal (deriveChecks size x y g (length s)) ≡ 0
       go (yes h) = h
       go (no h) = rw (ne-eqb _ 0 h) at cut
 
-  pub as-flagless : (n : ℕ) (s₁ s₂ : List ℕ) → Outcome size x y t8 g untrue s 0 s₁ → Outcome size x y t8 g false s n s₂ → (n ≡ 0) × (s₂ ≡ s₁)
+  pub as-flagless : (n : ℕ) (s₁ s₂ : List ℕ) → DeriveOutcome size x y t8 g untrue s 0 s₁ → DeriveOutcome size x y t8 g false s n s₂ → (n ≡ 0) × (s₂ ≡ s₁)
   as-flagless n s₁ s₂ a b =
       let e : n ≡ 0 = b .says ∙ answer-cut size x y g (length s) false ∙ ap (λ (r : ℕ). cond (eqb r 0) 0 r) (passed-all (sym (a .says))) in
       (e, b .leaves ∙ ap (λ (k : ℕ). cond (eqb k 0) (written (y * size .w + x) (strengthAt g (size .w) t8 x y) s) s) e ∙ sym (a .leaves))
@@ -104,13 +104,13 @@ flag-true : (b t : Bool) → b ≡ true → (b && not t) ≡ false → t ≡ tru
 flag-true b t e f = not-false t (sym (ap (λ (c : Bool). c && not t) e) ∙ f)
 
 module _ (g : Grids) (w x y : ℕ) (agree : disagree (g .inter) w x y ≡ false) where
-  pub flags-kind : (a u : Bool) → ((a && not (flat g w x y)) || (u && not (uniform g w x y))) ≡ false → isKind g w x y (kindOf (first (g .inter) w x y) a u) ≡ true
-  flags-kind a u e = go (first (g .inter) w x y) refl a u refl refl
+  pub flags-kind : (a u : Bool) → ((a && not (flat g w x y)) || (u && not (uniform g w x y))) ≡ false → isKind g w x y (kindOf (firstInter (g .inter) w x y) a u) ≡ true
+  flags-kind a u e = go (firstInter (g .inter) w x y) refl a u refl refl
     where
       o : ((a && not (flat g w x y)) ≡ false) × ((u && not (uniform g w x y)) ≡ false)
       o = or-false (a && not (flat g w x y)) (u && not (uniform g w x y)) e
 
-      go : (f : Bool) → first (g .inter) w x y ≡ f → (b v : Bool) → a ≡ b → u ≡ v → isKind g w x y (kindOf f b v) ≡ true
+      go : (f : Bool) → firstInter (g .inter) w x y ≡ f → (b v : Bool) → a ≡ b → u ≡ v → isKind g w x y (kindOf f b v) ≡ true
       go false e b v p q = intra-is g w x y agree ∙ ap not e
       go true e true v p q = flag-true a (flat g w x y) p (o .0)
       go true e false true p q = flag-true u (uniform g w x y) q (o .1)

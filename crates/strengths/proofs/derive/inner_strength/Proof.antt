@@ -1,10 +1,10 @@
--- `inner`: one case for each kind. Assumes nothing.
+-- `inner_strength`: one case for each kind. Assumes nothing.
 use borrow.Author.Needs.{needs}
-use Rattle.strengths.proofs.derive.inner.Statement.{statement}
-use Rattle.strengths.proofs.derive.inner.Tie as tie
+use Rattle.strengths.proofs.derive.inner_strength.Statement.{statement}
+use Rattle.strengths.proofs.derive.inner_strength.Tie as tie
 
-pub inner-spec : {M : Type 1} → statement M
-inner-spec =
+pub inner-strength-spec : {M : Type 1} → statement M
+inner-strength-spec =
     tie.close
     (tie.spec
     (λ c. search needs)

@@ -1,8 +1,8 @@
--- `motion::blocks::equal` meets its contract: equal bits are equal numbers. Assumes nothing.
+-- `motion::blocks::equal_motion` meets its contract: equal bits are equal numbers. Assumes nothing.
 use mir.Syntax.{w16, w32}
 use Rattle.laws.proofs.Equal.{eq-bits}
-use Rattle.motion.proofs.blocks.equal.Statement.{statement}
-use Rattle.motion.proofs.blocks.equal.Tie as tie
+use Rattle.motion.proofs.blocks.equal_motion.Statement.{statement}
+use Rattle.motion.proofs.blocks.equal_motion.Tie as tie
 
 returns : tie.Need-returns
 returns c =
@@ -14,5 +14,5 @@ returns c =
     let y = eq-bits w16 (s .a .y) (s .b .y) (a .1 .1 .0 .1) (b .1 .1 .0 .1) in
     simp (r, x, y)
 
-pub equal-spec : {M : Type 1} → statement M
-equal-spec = tie.close (tie.spec returns)
+pub equal-motion-spec : {M : Type 1} → statement M
+equal-motion-spec = tie.close (tie.spec returns)

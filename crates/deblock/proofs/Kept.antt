@@ -10,19 +10,20 @@ use Rattle.edges.specs.declared.Offsets.{Offsets}
 use Rattle.edges.specs.declared.Size.{Size}
 use Rattle.motion.specs.Grids.{Grids}
 use Rattle.strengths.specs.Calls.{DeriveOutcome, untrueKind}
-use Rattle.pictures.specs.Filtering.{Lent, RowOutcome}
+use Rattle.pictures.specs.Checks.{lent}
+use Rattle.pictures.specs.Rows.{RowOutcome}
 use Rattle.strengths.specs.declared.kinds.MbKind.{MbKind}
-use Rattle.visits.specs.Checks.{given}
 use Rattle.visits.specs.Promise.{VisitOutcome}
 use Rattle.visits.specs.Visit.{At, State}
 use Rattle.deblock.specs.Numbers.{request, kindNumber, untrueNumber}
 
 -- ---- the offsets
-pub rows-kept : (size : Size) (a b : ℕ) {o o′ : Offsets} (l : Lent) (p : Planes) (n : ℕ) (p′ : Planes) → o ≡ o′ → RowOutcome size a b o l p n p′ → RowOutcome size a b o′ l p n p′
-rows-kept size a b l p n p′ e h = subst (λ (o : Offsets). RowOutcome size a b o l p n p′) e h
+module _ (size : Size) {o o′ : Offsets} (s q t : List ℕ) where
+  pub rows-kept : (a b : ℕ) (p : Planes) (n : ℕ) (p′ : Planes) → o ≡ o′ → RowOutcome (lent size o s q t) a b p n p′ → RowOutcome (lent size o′ s q t) a b p n p′
+  rows-kept a b p n p′ e h = subst (λ (k : Offsets). RowOutcome (lent size k s q t) a b p n p′) e h
 
-pub visit-kept : (size : Size) {o o′ : Offsets} (s q t : List ℕ) (p : State Planes) (r : At) (n : ℕ) (p′ : State Planes) → o ≡ o′ → VisitOutcome (given size o s q t) p r n p′ → VisitOutcome (given size o′ s q t) p r n p′
-visit-kept size s q t p r n p′ e h = subst (λ (o : Offsets). VisitOutcome (given size o s q t) p r n p′) e h
+  pub visit-kept : (p : State Planes) (r : At) (n : ℕ) (p′ : State Planes) → o ≡ o′ → VisitOutcome (lent size o s q t) p r n p′ → VisitOutcome (lent size o′ s q t) p r n p′
+  visit-kept p r n p′ e h = subst (λ (k : Offsets). VisitOutcome (lent size k s q t) p r n p′) e h
 
 -- ---- check 12
 pub kind-kept : (size : Size) (x y : ℕ) (g : Grids) {u u′ : Bool} (s : List ℕ) (n : ℕ) (s′ : List ℕ) → u ≡ u′ → DeriveOutcome size x y false g u s n s′ → DeriveOutcome size x y false g u′ s n s′

@@ -1,6 +1,7 @@
 // The calls that filter rows, for C.
 ghost use Rattle.edges.specs.Picture.{planes};
-ghost use Rattle.pictures.specs.Filtering.{lent, RowOutcome, FrameOutcome};
+ghost use Rattle.pictures.specs.Checks.{lent};
+ghost use Rattle.pictures.specs.Rows.{RowOutcome, FrameOutcome};
 ghost use Rattle.deblock.specs.Numbers.{sizeOf, offsets};
 use edges::Offsets;
 use edges::Size;
@@ -15,18 +16,18 @@ pub extern "C" fn deblock_frame(
     a: i32,
     b: i32,
     chroma: i32,
-    y: &mut [u8],
+    luma: &mut [u8],
     u: &mut [u8],
     v: &mut [u8],
     strengths: &[u8],
     qps: &[u8],
     t8s: &[u8],
 ) -> u32
-    ensures { λ n. ⌜ FrameOutcome (sizeOf w h) (offsets a b chroma) (lent (now (strengths .entry)) (now (qps .entry)) (now (t8s .entry))) (planes (now (y .entry)) (now (u .entry)) (now (v .entry))) n (planes (now (y .exit)) (now (u .exit)) (now (v .exit))) ⌝ }
+    ensures { λ n. ⌜ FrameOutcome (lent (sizeOf w h) (offsets a b chroma) (now (strengths .entry)) (now (qps .entry)) (now (t8s .entry))) (planes (now (luma .entry)) (now (u .entry)) (now (v .entry))) n (planes (now (luma .exit)) (now (u .exit)) (now (v .exit))) ⌝ }
 {
     let size = Size { w, h };
     let o = Offsets { a, b, chroma };
-    filter_frame(size, o, y, u, v, strengths, qps, t8s)
+    filter_frame(size, o, luma, u, v, strengths, qps, t8s)
 }
 
 // Rows first to last, the last not among them.
@@ -39,16 +40,16 @@ pub extern "C" fn deblock_rows(
     a: i32,
     b: i32,
     chroma: i32,
-    y: &mut [u8],
+    luma: &mut [u8],
     u: &mut [u8],
     v: &mut [u8],
     strengths: &[u8],
     qps: &[u8],
     t8s: &[u8],
 ) -> u32
-    ensures { λ n. ⌜ RowOutcome (sizeOf w h) first last (offsets a b chroma) (lent (now (strengths .entry)) (now (qps .entry)) (now (t8s .entry))) (planes (now (y .entry)) (now (u .entry)) (now (v .entry))) n (planes (now (y .exit)) (now (u .exit)) (now (v .exit))) ⌝ }
+    ensures { λ n. ⌜ RowOutcome (lent (sizeOf w h) (offsets a b chroma) (now (strengths .entry)) (now (qps .entry)) (now (t8s .entry))) first last (planes (now (luma .entry)) (now (u .entry)) (now (v .entry))) n (planes (now (luma .exit)) (now (u .exit)) (now (v .exit))) ⌝ }
 {
     let size = Size { w, h };
     let o = Offsets { a, b, chroma };
-    filter_frame_rows(size, first, last, o, y, u, v, strengths, qps, t8s)
+    filter_frame_rows(size, first, last, o, luma, u, v, strengths, qps, t8s)
 }

@@ -1,6 +1,6 @@
 // The visit, for C.
 ghost use Rattle.edges.specs.Picture.{planes};
-ghost use Rattle.visits.specs.Checks.{given};
+ghost use Rattle.pictures.specs.Checks.{lent};
 ghost use Rattle.visits.specs.Promise.{VisitOutcome};
 ghost use Rattle.deblock.specs.Numbers.{sizeOf, offsets};
 use edges::Offsets;
@@ -17,7 +17,7 @@ pub extern "C" fn deblock_visit(
     a: i32,
     b: i32,
     chroma: i32,
-    y: &mut [u8],
+    luma: &mut [u8],
     u: &mut [u8],
     v: &mut [u8],
     strengths: &[u8],
@@ -25,9 +25,9 @@ pub extern "C" fn deblock_visit(
     t8s: &[u8],
     marks: &mut [u8],
 ) -> u32
-    ensures { λ n. ⌜ VisitOutcome (given (sizeOf w h) (offsets a b chroma) (now (strengths .entry)) (now (qps .entry)) (now (t8s .entry))) (planes (now (y .entry)) (now (u .entry)) (now (v .entry)), now (marks .entry)) («mb_x», «mb_y») n (planes (now (y .exit)) (now (u .exit)) (now (v .exit)), now (marks .exit)) ⌝ }
+    ensures { λ n. ⌜ VisitOutcome (lent (sizeOf w h) (offsets a b chroma) (now (strengths .entry)) (now (qps .entry)) (now (t8s .entry))) (planes (now (luma .entry)) (now (u .entry)) (now (v .entry)), now (marks .entry)) («mb_x», «mb_y») n (planes (now (luma .exit)) (now (u .exit)) (now (v .exit)), now (marks .exit)) ⌝ }
 {
     let size = Size { w, h };
     let o = Offsets { a, b, chroma };
-    visit(size, mb_x, mb_y, o, y, u, v, strengths, qps, t8s, marks)
+    visit(size, mb_x, mb_y, o, luma, u, v, strengths, qps, t8s, marks)
 }

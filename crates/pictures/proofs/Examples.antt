@@ -1,36 +1,30 @@
 -- Worked examples: the answers of a row call on one grey macroblock. Assumes nothing.
 use mathlib.Core.Path.{_≡_, refl}
-use mathlib.Core.List.{List, [], _∷_, replicate}
+use mathlib.Core.List.{[], _∷_, replicate}
 use Prim.Native.Nat.{ℕ}
 use lib.IntN.{pos}
 use Rattle.laws.specs.Some.{some}
 use Rattle.edges.specs.Picture.{Planes, planes}
-use Rattle.edges.specs.declared.Offsets.{Offsets}
-use Rattle.edges.specs.declared.Size.{Size}
-use Rattle.pictures.specs.Filtering.{lent, over, rowAnswer}
+use Rattle.pictures.specs.Checks.{Lent, lent, someBad}
+use Rattle.pictures.specs.Rows.{rowAnswer}
 
-abbrev pub one : Size
-one = record { w = 1; h = 1 }
-
-abbrev pub blank : List ℕ
-blank = replicate 32 0
-
-abbrev pub level : Offsets
-level = record { a = pos 0; b = pos 0; chroma = pos 0 }
+-- its strengths and its QP
+abbrev pub greyLent : ℕ → ℕ → Lent
+greyLent bs qp = lent (record { w = 1; h = 1 }) (record { a = pos 0; b = pos 0; chroma = pos 0 }) (replicate 32 bs) (qp ∷ []) []
 
 abbrev pub grey : Planes
 grey = planes (replicate 256 128) (replicate 64 128) (replicate 64 128)
 
-pub served : rowAnswer one 0 1 level grey (lent blank (30 ∷ []) []) ≡ 0
-unfolding rowAnswer over some
-served = refl
+pub grey-served : rowAnswer (greyLent 0 30) 0 1 grey ≡ 0
+unfolding rowAnswer someBad some
+grey-served = refl
 
 -- rows 0 to 2 of one row; no luma; QP 52; strength 5, with QP 52 beside it or without: the first check that
 -- applies
-refusals : (rowAnswer one 0 2 level grey (lent blank (30 ∷ []) []) ≡ 2)
-    × (rowAnswer one 0 1 level (planes [] (grey .u) (grey .v)) (lent blank (30 ∷ []) []) ≡ 3)
-    × (rowAnswer one 0 1 level grey (lent blank (52 ∷ []) []) ≡ 8)
-    × (rowAnswer one 0 1 level grey (lent (replicate 32 5) (52 ∷ []) []) ≡ 8)
-    × (rowAnswer one 0 1 level grey (lent (replicate 32 5) (30 ∷ []) []) ≡ 9)
-unfolding rowAnswer over some
-refusals = (refl, refl, refl, refl, refl)
+grey-refused : (rowAnswer (greyLent 0 30) 0 2 grey ≡ 2)
+    × (rowAnswer (greyLent 0 30) 0 1 (planes [] (grey .u) (grey .v)) ≡ 3)
+    × (rowAnswer (greyLent 0 52) 0 1 grey ≡ 8)
+    × (rowAnswer (greyLent 5 52) 0 1 grey ≡ 8)
+    × (rowAnswer (greyLent 5 30) 0 1 grey ≡ 9)
+unfolding rowAnswer someBad some
+grey-refused = (refl, refl, refl, refl, refl)

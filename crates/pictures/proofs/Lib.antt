@@ -1,7 +1,11 @@
+pub mod EmptyRange
 pub mod Examples
-pub mod Frames
-pub mod Joined
-pub mod Over
-pub mod Ranges
+pub mod Fitting
+pub mod FromGrids
+pub mod Left
+pub mod Parts
 pub mod Refused
-pub mod Whole
+pub mod RowBounds
+pub mod RowCalls
+pub mod RowsJoined
+pub mod SomeBad

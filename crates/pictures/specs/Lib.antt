@@ -1,2 +1,3 @@
-pub mod Filtering
+pub mod Checks
+pub mod Rows
 pub mod Standard

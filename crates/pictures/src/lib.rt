@@ -1,3 +1,3 @@
 // Pictures filtered by strengths, whole or by rows, with numbered refusals.
-pub mod filtering;
+pub mod checks;
 pub mod rows;

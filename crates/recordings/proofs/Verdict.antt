@@ -10,7 +10,7 @@ use borrow.Author.Tests.{eq-eqb}
 use lib.ListN.{length, take, replicate, length-replicate}
 use Rattle.laws.proofs.Bools.{and-true}
 use Rattle.edges.specs.Picture.{Planes, planes}
-use Rattle.visits.specs.Checks.{Given}
+use Rattle.pictures.specs.Checks.{Lent}
 use Rattle.visits.specs.Visit.{State}
 use Rattle.recordings.specs.Bytes.{zeros, copied, ones}
 use Rattle.recordings.specs.Orders.{isWhole, filtered, Becomes, startOf, ComesOut}
@@ -35,7 +35,7 @@ module _ {y u v y′ u′ v′ : List ℕ} where
       )
 
 -- the two tests of a way
-pub becomes : {way : Way} {d : Given} {n : ℕ} {s t : State Planes} {after : Planes} (v w m : Bool) → t ≡ filtered way d n s → v ≡ isWhole way
+pub becomes : {way : Way} {d : Lent} {n : ℕ} {s t : State Planes} {after : Planes} (v w m : Bool) → t ≡ filtered way d n s → v ≡ isWhole way
     → w ≡ ones (t .1) → (m ≡ true) ↔ (t .0 ≡ after) → (((v || w) && m) ≡ true) ↔ Becomes way d n s after
 becomes {way} {d} {n} {s} {t} {after} v w m e p q r =
     let visits : (v || w) ≡ (isWhole way || ones (filtered way d n s .1)) = rw (q, p, e) in (
@@ -65,7 +65,7 @@ pub start-is : (n : ℕ) (p : Planes) → length (p .luma) ≡ 256 * n → lengt
 start-is n p e f g = rw (whole (256 * n) (p .luma) e, whole (64 * n) (p .u) f, whole (64 * n) (p .v) g)
 
 -- ---- a way in spaces of 120 macroblocks
-module _ (way : Way) (d : Given) (n : ℕ) (before after : Planes) where
+module _ (way : Way) (d : Lent) (n : ℕ) (before after : Planes) where
   pub too-large : 120 < n → (false ≡ true) ↔ ComesOut way d n before after
   too-large h = (λ e. absurd (false≢true e), λ k. let s = k .small in absurd (omega arith))
 

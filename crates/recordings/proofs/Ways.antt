@@ -4,15 +4,14 @@ use mathlib.Core.Path.{_≡_, sym, ap, _∙_}
 use mathlib.Core.Bool.{Bool, true, false}
 use mathlib.Core.List.{List}
 use Rattle.edges.specs.Picture.{Planes}
-use Rattle.pictures.specs.Filtering.{lent, FrameOutcome}
-use Rattle.visits.specs.Checks.{Given}
+use Rattle.pictures.specs.Checks.{Lent}
+use Rattle.pictures.specs.Rows.{FrameOutcome}
 use Rattle.visits.specs.Visit.{State}
 use Rattle.recordings.specs.Orders.{isWhole, turnsOf, visitsTo, filtered}
 use Rattle.recordings.specs.declared.orders.Way.{Way}
 
-module _ (way : Way) (d : Given) (n : ℕ) {b : Bool} (e : b ≡ isWhole way) where
-  pub by-frame : {p p′ : Planes} {m : List ℕ} {k : ℕ} → b ≡ true
-      → FrameOutcome (d .size) (d .offsets) (lent (d .strengths) (d .qps) (d .t8s)) p k p′ → (p′, m) ≡ filtered way d n (p, m)
+module _ (way : Way) (d : Lent) (n : ℕ) {b : Bool} (e : b ≡ isWhole way) where
+  pub by-frame : {p p′ : Planes} {m : List ℕ} {k : ℕ} → b ≡ true → FrameOutcome d p k p′ → (p′, m) ≡ filtered way d n (p, m)
   unfolding filtered
   by-frame {p} {p′} {m} {k} t o = rw (sym e ∙ t) (ap (λ (q : Planes). (q, m)) (rw (o .says) at (o .leaves)))
 

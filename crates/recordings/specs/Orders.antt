@@ -7,8 +7,8 @@ use mathlib.Core.Bool.{Bool, true, false, cond, _||_}
 use lib.Dec.{eqb, ltb}
 use Rattle.laws.specs.Loop.{upTo}
 use Rattle.edges.specs.Picture.{Planes, planes, rowsOf}
-use Rattle.pictures.specs.Filtering.{lent, rowAnswer}
-use Rattle.visits.specs.Checks.{Given, heldOf}
+use Rattle.pictures.specs.Checks.{Lent, heldOf}
+use Rattle.pictures.specs.Rows.{rowAnswer}
 use Rattle.visits.specs.Promise.{visitOf}
 use Rattle.visits.specs.Visit.{At, State}
 use Rattle.recordings.specs.Bytes.{zeros, copied, ones}
@@ -44,23 +44,19 @@ turnsOf n = cond (ltb 120 n) 0 (120 * n)
 
 -- ---- what a way makes of planes and marks
 -- k turns of visits
-abbrev pub visitsTo : ℕ → Way → Given → ℕ → State Planes → State Planes
+abbrev pub visitsTo : ℕ → Way → Lent → ℕ → State Planes → State Planes
 visitsTo k way d n = upTo k (λ t s. visitOf d s (requestOf way n (d .size .w) t) .1)
 
 -- the whole-picture call: all rows, or the planes as they are where it is refused
-abbrev pub framed : Given → Planes → Planes
-framed d p =
-    cond
-    (eqb (rowAnswer (d .size) 0 (d .size .h) (d .offsets) p (lent (d .strengths) (d .qps) (d .t8s))) 0)
-    (rowsOf (heldOf d) 0 (d .size .h) p)
-    p
+abbrev pub framed : Lent → Planes → Planes
+framed d p = cond (eqb (rowAnswer d 0 (d .size .h) p) 0) (rowsOf (heldOf d) 0 (d .size .h) p) p
 
-unfoldable pub filtered : Way → Given → ℕ → State Planes → State Planes
+unfoldable pub filtered : Way → Lent → ℕ → State Planes → State Planes
 filtered way d n s = cond (isWhole way) (framed d (s .0), s .1) (visitsTo (turnsOf n) way d n s)
 
 -- ---- the verdict
 -- the planes come out as `after`, and where they were filtered by visits, each macroblock was visited
-pub record Becomes (way : Way) (d : Given) (n : ℕ) (s : State Planes) (after : Planes) : Type 0 where
+pub record Becomes (way : Way) (d : Lent) (n : ℕ) (s : State Planes) (after : Planes) : Type 0 where
   pub visited : (isWhole way || ones (filtered way d n s .1)) ≡ true
   pub out : filtered way d n s .0 ≡ after
 
@@ -70,12 +66,12 @@ startOf n p =
     (planes (copied (zeros (256 * n)) (p .luma)) (copied (zeros (64 * n)) (p .u)) (copied (zeros (64 * n)) (p .v)), zeros n)
 
 -- a picture of at most 120 macroblocks becomes `after`
-pub record ComesOut (way : Way) (d : Given) (n : ℕ) (before after : Planes) : Type 0 where
+pub record ComesOut (way : Way) (d : Lent) (n : ℕ) (before after : Planes) : Type 0 where
   pub small : n ≤ 120
   pub becomes : Becomes way d n (startOf n before) after
 
 -- each verdict is true exactly where its way holds
-pub record Judged (d : Given) (n : ℕ) (before after : Planes) (r : Verdicts) : Type 0 where
+pub record Judged (d : Lent) (n : ℕ) (before after : Planes) (r : Verdicts) : Type 0 where
   pub whole : (r .whole ≡ true) ↔ ComesOut Whole d n before after
   pub raster : (r .raster ≡ true) ↔ ComesOut Raster d n before after
   pub reverse : (r .reverse ≡ true) ↔ ComesOut Reverse d n before after

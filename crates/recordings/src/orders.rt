@@ -5,7 +5,7 @@ ghost use mathlib.Core.Bool.{true};
 ghost use mathlib.Core.Logic.{_↔_};
 ghost use Prim.Native.Nat.{_<_, _≤_};
 ghost use Rattle.edges.specs.Picture.{planes};
-ghost use Rattle.visits.specs.Checks.{given};
+ghost use Rattle.pictures.specs.Checks.{lent};
 ghost use Rattle.recordings.specs.Bytes.{copied};
 ghost use Rattle.recordings.specs.Orders.{isWhole, countOf, visitedIn, turnsOf, visitsTo, filtered, Becomes, ComesOut, Judged};
 use crate::bytes::all_ones;
@@ -86,7 +86,7 @@ fn visits_in(
     t8s: &[u8],
     marks: &mut [u8],
 )
-    ensures { λ _. ⌜ (planes (now (y .exit)) (now (u .exit)) (now (v .exit)), now (marks .exit)) ≡ visitsTo (turnsOf n) way (given size o (now (s .entry)) (now (qps .entry)) (now (t8s .entry))) n (planes (now (y .entry)) (now (u .entry)) (now (v .entry)), now (marks .entry)) ⌝ }
+    ensures { λ _. ⌜ (planes (now (y .exit)) (now (u .exit)) (now (v .exit)), now (marks .exit)) ≡ visitsTo (turnsOf n) way (lent size o (now (s .entry)) (now (qps .entry)) (now (t8s .entry))) n (planes (now (y .entry)) (now (u .entry)) (now (v .entry)), now (marks .entry)) ⌝ }
 {
     for t in 0..turns(n) {
         let i = place(way, t, n);
@@ -119,7 +119,7 @@ fn filter(
     t8s: &[u8],
     marks: &mut [u8],
 )
-    ensures { λ _. ⌜ (planes (now (y .exit)) (now (u .exit)) (now (v .exit)), now (marks .exit)) ≡ filtered way (given size o (now (s .entry)) (now (qps .entry)) (now (t8s .entry))) n (planes (now (y .entry)) (now (u .entry)) (now (v .entry)), now (marks .entry)) ⌝ }
+    ensures { λ _. ⌜ (planes (now (y .exit)) (now (u .exit)) (now (v .exit)), now (marks .exit)) ≡ filtered way (lent size o (now (s .entry)) (now (qps .entry)) (now (t8s .entry))) n (planes (now (y .entry)) (now (u .entry)) (now (v .entry)), now (marks .entry)) ⌝ }
 {
     if is_whole(way) {
         filter_frame(size, o, y, u, v, s, qps, t8s);
@@ -162,7 +162,7 @@ fn becomes(
     tv: &mut [u8],
     marks: &mut [u8],
 ) -> bool
-    ensures { λ r. ⌜ (r ≡ true) ↔ Becomes way (given size o (now (s .entry)) (now (qps .entry)) (now (t8s .entry))) n (planes (copied (now (ty .entry)) (now (y .entry))) (copied (now (tu .entry)) (now (u .entry))) (copied (now (tv .entry)) (now (v .entry))), now (marks .entry)) (planes (now (ay .entry)) (now (au .entry)) (now (av .entry))) ⌝ }
+    ensures { λ r. ⌜ (r ≡ true) ↔ Becomes way (lent size o (now (s .entry)) (now (qps .entry)) (now (t8s .entry))) n (planes (copied (now (ty .entry)) (now (y .entry))) (copied (now (tu .entry)) (now (u .entry))) (copied (now (tv .entry)) (now (v .entry))), now (marks .entry)) (planes (now (ay .entry)) (now (au .entry)) (now (av .entry))) ⌝ }
 {
     copies(ty, tu, tv, y, u, v);
     filter(way, size, n, o, ty, tu, tv, s, qps, t8s, marks);
@@ -186,7 +186,7 @@ fn holds(
     qps: &[u8],
     t8s: &[u8],
 ) -> bool
-    ensures { λ r. ⌜ (r ≡ true) ↔ ComesOut way (given size o (now (s .entry)) (now (qps .entry)) (now (t8s .entry))) n (planes (now (y .entry)) (now (u .entry)) (now (v .entry))) (planes (now (ay .entry)) (now (au .entry)) (now (av .entry))) ⌝ }
+    ensures { λ r. ⌜ (r ≡ true) ↔ ComesOut way (lent size o (now (s .entry)) (now (qps .entry)) (now (t8s .entry))) n (planes (now (y .entry)) (now (u .entry)) (now (v .entry))) (planes (now (ay .entry)) (now (au .entry)) (now (av .entry))) ⌝ }
 {
     if 120 < n {
         return false;
@@ -240,7 +240,7 @@ pub fn all(
     qps: &[u8],
     t8s: &[u8],
 ) -> Verdicts
-    ensures { λ r. ⌜ Judged (given size o (now (s .entry)) (now (qps .entry)) (now (t8s .entry))) n (planes (now (y .entry)) (now (u .entry)) (now (v .entry))) (planes (now (ay .entry)) (now (au .entry)) (now (av .entry))) r ⌝ }
+    ensures { λ r. ⌜ Judged (lent size o (now (s .entry)) (now (qps .entry)) (now (t8s .entry))) n (planes (now (y .entry)) (now (u .entry)) (now (v .entry))) (planes (now (ay .entry)) (now (au .entry)) (now (av .entry))) r ⌝ }
 {
     let whole = holds(Way::Whole, size, n, o, y, u, v, ay, au, av, s, qps, t8s);
     let raster = holds(Way::Raster, size, n, o, y, u, v, ay, au, av, s, qps, t8s);

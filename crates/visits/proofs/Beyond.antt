@@ -10,7 +10,8 @@ use Rattle.edges.proofs.Pictures.{frame-steps}
 use Rattle.visits.specs.Visit.{At, State, fresh, run}
 use Rattle.visits.specs.Beyond.{Bits}
 use Rattle.visits.specs.Rounds.{Full, Schedule, asRequests, roundsFor}
-use Rattle.visits.specs.Checks.{Given, heldOf, earlyOf, Sound, Fit}
+use Rattle.pictures.specs.Checks.{Lent, heldOf}
+use Rattle.visits.specs.Checks.{earlyOf, Sound, Fit}
 use Rattle.visits.specs.Promise.{visitOf, unvisited}
 use Rattle.visits.proofs.Clauses.{passed}
 use Rattle.visits.proofs.Commute as commute
@@ -19,7 +20,7 @@ use Rattle.visits.proofs.RoundsRun.{good-visit}
 use Rattle.visits.proofs.Instance.{asks-place, commutes, fit-kept, passes-valid}
 use Rattle.visits.proofs.Demand3.{beyond-3}
 
-module _ (d : Given) (wide : 0 < d .size .w) (v : Sound d) where
+module _ (d : Lent) (wide : 0 < d .size .w) (v : Sound d) where
   -- full rounds filter the whole picture: W + 2 * (H - 1) of them, H where W is 1
   pub rounds-filter : {rs : List (List ℕ)} {end : List ℕ} → Schedule (Full (d .size .w) (d .size .h)) (fresh (d .size .w) (d .size .h)) rs end
       → roundsFor (d .size .w) (d .size .h) ≤ length rs → (start : Planes) → Fit d start

@@ -15,12 +15,13 @@ use Rattle.motion.proofs.Cases as motion-proved
 use Rattle.laws.proofs.Table.{bounded, at-most}
 use Rattle.edges.specs.Picture.{Planes, stepOf}
 use Rattle.visits.specs.Visit.{waiting, answer, visit}
-use Rattle.visits.specs.Checks.{heldOf, earlyOf, Sound, Fit}
-use Rattle.visits.specs.Fault.{band, outer, faultGiven, faultHeld}
+use Rattle.pictures.specs.Checks.{heldOf}
+use Rattle.visits.specs.Checks.{earlyOf, Sound, Fit}
+use Rattle.visits.specs.Fault.{band, outerStrengths, faultLent, faultHeld}
 use Rattle.visits.specs.Promise.{visitOf}
-use Rattle.visits.specs.Cases.{square, columnGiven, column, asked, cases, twelve}
+use Rattle.visits.specs.Cases.{squarePlanes, columnLent, columnPlanes, asked, visitCases, twelve}
 use Rattle.visits.proofs.Fault.{old-clear}
-use Rattle.visits.proofs.Instance.{fit-kept, passes-valid}
+use Rattle.visits.proofs.Instance.{fit-kept, none-over, passes-valid}
 use Rattle.visits.proofs.Old.{ours-refuses}
 
 holds-join : (cs ds : List Case) → Holds cs → Holds ds → Holds (cs ++ ds)
@@ -28,43 +29,43 @@ holds-join [] ds h k = k
 holds-join (c ∷ cs) ds h k = (h .0, holds-join cs ds (h .1) k)
 
 -- ---- P12. 2 by 2: (0, 1) is refused, since its upper right neighbour is unvisited
-square-asked : asked faultGiven square ≡ 0 ∷ 14 ∷ []
-square-asked = ours-refuses (stepOf faultHeld) (earlyOf faultGiven) square (old-clear (replicate 256 128) (replicate 256 128) refl refl)
+square-asked : asked faultLent squarePlanes ≡ 0 ∷ 14 ∷ []
+square-asked = ours-refuses (stepOf faultHeld) (earlyOf faultLent) squarePlanes (old-clear (replicate 256 128) (replicate 256 128) refl refl)
 
 -- 1 by 2: there is none
-column-sound : Sound columnGiven
-column-sound = record { sides = refl; lengths = refl; range = refl; flag = at-most 1 [] tt; qp = at-most 51 (40 ∷ 40 ∷ []) tt; strength = at-most 4 (outer 0 0 ++ outer 0 1) tt }
+column-sound : Sound columnLent
+column-sound = record { sides = refl; lengths = refl; range = refl; flag = none-over 1 [] tt; qp = none-over 51 (40 ∷ 40 ∷ []) tt; strength = none-over 4 (outerStrengths 0 0 ++ outerStrengths 0 1) tt }
 
-column-fit : Fit columnGiven column
+column-fit : Fit columnLent columnPlanes
 unfolding band
-column-fit = record { luma = refl; cb = refl; cr = refl }
+column-fit = record { luma = refl; u = refl; v = refl }
 
-column-clear : (p : Planes) → Fit columnGiven p → (a b y : ℕ) → T (bounded 1 (a ∷ b ∷ [])) → y < 2 → earlyOf columnGiven (p, a ∷ b ∷ []) (0, y) ≡ 0
-column-clear p f a b y m h = passes-valid columnGiven column-sound (p, a ∷ b ∷ []) f refl (at-most 1 (a ∷ b ∷ []) m) 0 y (omega arith) h
+column-clear : (p : Planes) → Fit columnLent p → (a b y : ℕ) → T (bounded 1 (a ∷ b ∷ [])) → y < 2 → earlyOf columnLent (p, a ∷ b ∷ []) (0, y) ≡ 0
+column-clear p f a b y m h = passes-valid columnLent column-sound (p, a ∷ b ∷ []) f refl (at-most 1 (a ∷ b ∷ []) m) 0 y (omega arith) h
 
-column-first : visitOf columnGiven (column, 0 ∷ 0 ∷ []) (0, 0) ≡ (0, (stepOf (heldOf columnGiven) 0 column, 1 ∷ 0 ∷ []))
+column-first : visitOf columnLent (columnPlanes, 0 ∷ 0 ∷ []) (0, 0) ≡ (0, (stepOf (heldOf columnLent) 0 columnPlanes, 1 ∷ 0 ∷ []))
 unfolding visit answer waiting
-column-first = rw (eq-eqb _ 0 (column-clear column column-fit 0 0 0 tt (omega arith)))
+column-first = rw (eq-eqb _ 0 (column-clear columnPlanes column-fit 0 0 0 tt (omega arith)))
 
-column-second : (p : Planes) → Fit columnGiven p → visitOf columnGiven (p, 1 ∷ 0 ∷ []) (0, 1) .0 ≡ 0
+column-second : (p : Planes) → Fit columnLent p → visitOf columnLent (p, 1 ∷ 0 ∷ []) (0, 1) .0 ≡ 0
 unfolding visit answer waiting
 column-second p f = rw (eq-eqb _ 0 (column-clear p f 1 0 1 tt (omega arith)))
 
-column-asked : asked columnGiven column ≡ 0 ∷ 0 ∷ []
-column-asked = rw (column-first, column-second _ (fit-kept columnGiven 0 column column-fit))
+column-asked : asked columnLent columnPlanes ≡ 0 ∷ 0 ∷ []
+column-asked = rw (column-first, column-second _ (fit-kept columnLent 0 columnPlanes column-fit))
 
-cases-hold : Holds cases
-unfolding cases
-cases-hold = (λ i. square-asked i ++ column-asked i, tt)
+visit-cases-hold : Holds visitCases
+unfolding visitCases
+visit-cases-hold = (λ i. square-asked i ++ column-asked i, tt)
 
 pub twelve-hold : Holds twelve
-unfolding lines.cases cases
-twelve-hold = holds-join lines.cases (motion.motionCases ++ cases) lines-proved.cases-hold (holds-join motion.motionCases cases motion-proved.cases-hold cases-hold)
+unfolding lines.cases visitCases
+twelve-hold = holds-join lines.cases (motion.motionCases ++ visitCases) lines-proved.cases-hold (holds-join motion.motionCases visitCases motion-proved.cases-hold visit-cases-hold)
 
 -- none is missing
 abbrev pub numberOf : Case → ℕ
 numberOf c = c .number
 
 pub all-twelve : map numberOf twelve ≡ 1 ∷ 2 ∷ 3 ∷ 4 ∷ 5 ∷ 6 ∷ 7 ∷ 8 ∷ 9 ∷ 10 ∷ 11 ∷ 12 ∷ []
-unfolding lines.cases cases
+unfolding lines.cases visitCases
 all-twelve = refl

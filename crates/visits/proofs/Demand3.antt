@@ -10,13 +10,14 @@ use Rattle.motion.specs.Grids.{Grids}
 use Rattle.edges.specs.Picture.{Planes, stepOf, frameOf}
 use Rattle.edges.proofs.Pictures.{frame-steps}
 use Rattle.pictures.specs.Standard.{pictureOf, Derived}
-use Rattle.pictures.proofs.Joined.{derived-picture}
+use Rattle.pictures.proofs.FromGrids.{derived-picture}
 use Rattle.visits.specs.Visit.{At, State, Call, run, answers}
 use Rattle.visits.specs.AnyOrder.{AllVisited, AnyOrder, Demand3}
 use Rattle.visits.specs.Beyond.{Beyond3}
 use Rattle.visits.specs.Calls.{Calls}
 use Rattle.visits.specs.Promise.{requests, visitOf, unvisited, uneven, ReplayOutcome}
-use Rattle.visits.specs.Checks.{Given, heldOf, earlyOf, Sound, Fit}
+use Rattle.pictures.specs.Checks.{Lent, heldOf}
+use Rattle.visits.specs.Checks.{earlyOf, Sound, Fit}
 use Rattle.visits.proofs.AnyOrder.{any-order, beyond}
 use Rattle.visits.proofs.Calls.{calls-any-order}
 use Rattle.visits.proofs.Marks.{zeros-are-fresh}
@@ -25,7 +26,7 @@ use Rattle.visits.proofs.Unique as unique
 use Rattle.visits.proofs.Instance.{asks-place, commutes, fit-kept, passes-valid}
 
 -- d is what is lent and stays the same; of its size only that there is a column is asked
-module _ (d : Given) (wide : 0 < d .size .w) where
+module _ (d : Lent) (wide : 0 < d .size .w) where
   -- for every picture to start with and every list of requests
   pub demand-3 : Demand3 (d .size .w) (d .size .h) (stepOf (heldOf d)) (earlyOf d) (visitOf d)
   demand-3 = any-order (d .size .w) (d .size .h) (stepOf (heldOf d)) (earlyOf d) (asks-place d) (commutes d wide)

@@ -26,12 +26,12 @@ use Rattle.visits.specs.AnyOrder.{Demand3}
 use Rattle.visits.specs.Old.{oldVisit, oldOrder, rasterOrder}
 use Rattle.visits.specs.Checks.{earlyOf, Sound, Fit}
 use Rattle.visits.specs.Promise.{visitOf, unvisited}
-use Rattle.visits.specs.Fault.{band, faultLuma, faultStrengths, faultGiven, faultHeld}
-use Rattle.visits.proofs.Instance.{fit-kept, passes-valid}
+use Rattle.visits.specs.Fault.{band, faultLuma, faultStrengths, faultLent, faultHeld}
+use Rattle.visits.proofs.Instance.{fit-kept, none-over, passes-valid}
 use Rattle.visits.proofs.Old.{OldClear, RasterClear, old-allows, old-ends, old-refuted, raster-ends}
 
-fault-sound : Sound faultGiven
-fault-sound = record { sides = refl; lengths = refl; range = refl; flag = at-most 1 [] tt; qp = at-most 51 (40 ∷ 40 ∷ 40 ∷ 40 ∷ []) tt; strength = at-most 4 faultStrengths tt }
+fault-sound : Sound faultLent
+fault-sound = record { sides = refl; lengths = refl; range = refl; flag = none-over 1 [] tt; qp = none-over 51 (40 ∷ 40 ∷ 40 ∷ 40 ∷ []) tt; strength = none-over 4 faultStrengths tt }
 
 module _ (u v : Plane) (lu : length u ≡ 256) (lv : length v ≡ 256) where
   abbrev pub start : Planes
@@ -46,53 +46,53 @@ module _ (u v : Plane) (lu : length u ≡ 256) (lv : length v ≡ 256) where
   samples = (refl, refl)
 
   -- ---- no earlier check applies to any visit inside the picture
-  fit : Fit faultGiven start
+  fit : Fit faultLent start
   unfolding band faultLuma
-  fit = record { luma = refl; cb = lu; cr = lv }
+  fit = record { luma = refl; u = lu; v = lv }
 
-  fit-0 : Fit faultGiven (step 0 start)
-  fit-0 = fit-kept faultGiven 0 start fit
+  fit-0 : Fit faultLent (step 0 start)
+  fit-0 = fit-kept faultLent 0 start fit
 
-  clear : (p : Planes) → Fit faultGiven p → (ms : List ℕ) → length ms ≡ 4 → T (bounded 1 ms) → (x y : ℕ) → T (bounded 1 (x ∷ y ∷ []))
-      → earlyOf faultGiven (p, ms) (x, y) ≡ 0
+  clear : (p : Planes) → Fit faultLent p → (ms : List ℕ) → length ms ≡ 4 → T (bounded 1 ms) → (x y : ℕ) → T (bounded 1 (x ∷ y ∷ []))
+      → earlyOf faultLent (p, ms) (x, y) ≡ 0
   clear p f ms l b x y h =
       let k = and-parts (leb x 1) (bounded 1 (y ∷ [])) h in
       let m = and-parts (leb y 1) true (k .1) in
-      passes-valid faultGiven fault-sound (p, ms) f l (at-most 1 ms b) x y (omega (arith, leb→le x 1 (k .0))) (omega (arith, leb→le y 1 (m .0)))
+      passes-valid faultLent fault-sound (p, ms) f l (at-most 1 ms b) x y (omega (arith, leb→le x 1 (k .0))) (omega (arith, leb→le y 1 (m .0)))
 
-  pub old-clear : OldClear step (earlyOf faultGiven) start
+  pub old-clear : OldClear step (earlyOf faultLent) start
   old-clear =
-      let f = fit-kept faultGiven 2 (step 0 start) fit-0 in
+      let f = fit-kept faultLent 2 (step 0 start) fit-0 in
       record {
         first = clear start fit (0 ∷ 0 ∷ 0 ∷ 0 ∷ []) refl tt 0 0 tt;
         second = clear (step 0 start) fit-0 (1 ∷ 0 ∷ 0 ∷ 0 ∷ []) refl tt 0 1 tt;
         third = clear (step 2 (step 0 start)) f (1 ∷ 0 ∷ 1 ∷ 0 ∷ []) refl tt 1 0 tt;
-        fourth = clear (step 1 (step 2 (step 0 start))) (fit-kept faultGiven 1 _ f) (1 ∷ 1 ∷ 1 ∷ 0 ∷ []) refl tt 1 1 tt;
+        fourth = clear (step 1 (step 2 (step 0 start))) (fit-kept faultLent 1 _ f) (1 ∷ 1 ∷ 1 ∷ 0 ∷ []) refl tt 1 1 tt;
       }
 
-  raster-clear : RasterClear step (earlyOf faultGiven) start
+  raster-clear : RasterClear step (earlyOf faultLent) start
   raster-clear =
-      let f = fit-kept faultGiven 1 (step 0 start) fit-0 in
+      let f = fit-kept faultLent 1 (step 0 start) fit-0 in
       record {
         first = clear start fit (0 ∷ 0 ∷ 0 ∷ 0 ∷ []) refl tt 0 0 tt;
         second = clear (step 0 start) fit-0 (1 ∷ 0 ∷ 0 ∷ 0 ∷ []) refl tt 1 0 tt;
         third = clear (step 1 (step 0 start)) f (1 ∷ 1 ∷ 0 ∷ 0 ∷ []) refl tt 0 1 tt;
-        fourth = clear (step 2 (step 1 (step 0 start))) (fit-kept faultGiven 2 _ f) (1 ∷ 1 ∷ 1 ∷ 0 ∷ []) refl tt 1 1 tt;
+        fourth = clear (step 2 (step 1 (step 0 start))) (fit-kept faultLent 2 _ f) (1 ∷ 1 ∷ 1 ∷ 0 ∷ []) refl tt 1 1 tt;
       }
 
   -- ---- the old rule: each visit is done, and the sample is 102
-  pub old-allowed : answers (oldVisit 2 step (earlyOf faultGiven)) oldOrder (unvisited faultGiven start) ≡ 0 ∷ 0 ∷ 0 ∷ 0 ∷ []
-  old-allowed = old-allows step (earlyOf faultGiven) start old-clear
+  pub old-allowed : answers (oldVisit 2 step (earlyOf faultLent)) oldOrder (unvisited faultLent start) ≡ 0 ∷ 0 ∷ 0 ∷ 0 ∷ []
+  old-allowed = old-allows step (earlyOf faultLent) start old-clear
 
-  pub old-102 : getD (run (oldVisit 2 step (earlyOf faultGiven)) oldOrder (unvisited faultGiven start) .0 .luma) 495 0 ≡ 102
-  old-102 = ap (λ (s : State Planes). getD (s .0 .luma) 495 0) (old-ends step (earlyOf faultGiven) start old-clear) ∙ samples .0
+  pub old-102 : getD (run (oldVisit 2 step (earlyOf faultLent)) oldOrder (unvisited faultLent start) .0 .luma) 495 0 ≡ 102
+  old-102 = ap (λ (s : State Planes). getD (s .0 .luma) 495 0) (old-ends step (earlyOf faultLent) start old-clear) ∙ samples .0
 
   -- raster order, as our visit allows it: 103
-  pub raster-103 : getD (run (visitOf faultGiven) rasterOrder (unvisited faultGiven start) .0 .luma) 495 0 ≡ 103
-  raster-103 = ap (λ (s : State Planes). getD (s .0 .luma) 495 0) (raster-ends step (earlyOf faultGiven) start raster-clear) ∙ samples .1
+  pub raster-103 : getD (run (visitOf faultLent) rasterOrder (unvisited faultLent start) .0 .luma) 495 0 ≡ 103
+  raster-103 = ap (λ (s : State Planes). getD (s .0 .luma) 495 0) (raster-ends step (earlyOf faultLent) start raster-clear) ∙ samples .1
 
   -- so demand 3 does not hold of the old release
-  pub old-refuted-here : Demand3 2 2 step (earlyOf faultGiven) (oldVisit 2 step (earlyOf faultGiven)) → ⊥
+  pub old-refuted-here : Demand3 2 2 step (earlyOf faultLent) (oldVisit 2 step (earlyOf faultLent)) → ⊥
   old-refuted-here =
-      old-refuted step (earlyOf faultGiven) start old-clear
+      old-refuted step (earlyOf faultLent) start old-clear
       (λ e. let k = sym (samples .0) ∙ ap (λ (p : Planes). getD (p .luma) 495 0) e ∙ samples .1 in omega arith)

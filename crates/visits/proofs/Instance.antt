@@ -2,80 +2,82 @@
 -- steps commute unless the later waits for the earlier, and with valid data no earlier check applies inside
 -- the picture. Assumes nothing.
 use mathlib.Core.Path.{_≡_, refl, _∙_}
-use mathlib.Core.Bool.{Bool, false, not, _&&_}
+use mathlib.Core.Bool.{Bool, false, not, _&&_, _||_}
 use mathlib.Core.List.{List}
-use Prim.Native.Nat.{ℕ, _+_, _-_, _*_, _/_, _%_, _≤_, _<_}
+use Prim.Native.Nat.{ℕ, _+_, _-_, _*_, _/_, _%_, _<_}
 use borrow.Author.Tests.{le-ltb, lt-leb, eq-eqb}
-use lib.Dec.{eqb, ltb}
+use lib.Dec.{T, eqb, ltb}
 use lib.ListN.{length, getD}
 use Rattle.laws.proofs.Some.{some-idle}
+use Rattle.laws.proofs.Table.{bounded, at-most}
 use Rattle.edges.specs.Picture.{Planes, stepOf}
 use Rattle.edges.proofs.Steps.{step-commute}
 use Rattle.edges.proofs.Pictures.{macroblock-sized}
-use Rattle.pictures.specs.Filtering.{over}
 use Rattle.visits.specs.Instance.{AsksPlace, Commutes, Passes}
 use Rattle.visits.specs.Beyond.{Bits}
-use Rattle.visits.specs.Checks.{Given, heldOf, badMarks, badQps, checks, earlyOf, Sound, Fit}
+use Rattle.strengths.specs.Checks.{outsideOf}
+use Rattle.pictures.specs.Checks.{Lent, heldOf, badPlanes, badLent, badFlag, badQp, badStrength, someBad, someBadFlag}
+use Rattle.visits.specs.Checks.{badMark, badMarks, badQps, visitChecks, earlyOf, Sound, Fit}
 use Rattle.laws.proofs.Bools.{and-false}
 use Rattle.laws.proofs.Refusal.{none-applies}
-use Rattle.visits.proofs.Passed.{all-good}
+use Rattle.visits.proofs.VisitFits.{checked-visit-fits}
 
-pub asks-place : (d : Given) → AsksPlace (d .size .w) (d .size .h) (earlyOf d)
+pub asks-place : (d : Lent) → AsksPlace (d .size .w) (d .size .h) (earlyOf d)
 unfolding earlyOf
-asks-place d s r e = let g = all-good d (length (s .0 .luma)) (length (s .0 .u)) (length (s .0 .v)) (s .1) r e in (g .column, g .row)
+asks-place d s r e = let g = checked-visit-fits d (length (s .0 .luma)) (length (s .0 .u)) (length (s .0 .v)) (s .1) r e in (g .column, g .row)
 
-pub commutes : (d : Given) → 0 < d .size .w → Commutes (d .size .w) (stepOf (heldOf d))
+pub commutes : (d : Lent) → 0 < d .size .w → Commutes (d .size .w) (stepOf (heldOf d))
 commutes d wide = step-commute (heldOf d) wide
 
 -- the planes keep their lengths
-pub fit-kept : (d : Given) (i : ℕ) (p : Planes) → Fit d p → Fit d (stepOf (heldOf d) i p)
+pub fit-kept : (d : Lent) (i : ℕ) (p : Planes) → Fit d p → Fit d (stepOf (heldOf d) i p)
 fit-kept d i p f =
     let k = macroblock-sized (heldOf d) (i % d .size .w) (i / d .size .w) p p (record { luma = refl; u = refl; v = refl }) in
-    record { luma = k .luma ∙ f .luma; cb = k .u ∙ f .cb; cr = k .v ∙ f .cr }
+    record { luma = k .luma ∙ f .luma; u = k .u ∙ f .u; v = k .v ∙ f .v }
 
--- a grid with no entry above `top` holds none anywhere
-module _ (xs : List ℕ) (top : ℕ) (most : (i : ℕ) → getD xs i 0 ≤ top) where
-  below : (i : ℕ) → ltb top (getD xs i 0) ≡ false
-  below i = le-ltb top (getD xs i 0) (most i)
+-- a small grid with no entry above `top`
+pub none-over : (top : ℕ) (xs : List ℕ) → T (bounded top xs) → (i : ℕ) → ltb top (getD xs i 0) ≡ false
+none-over top xs t i = le-ltb top (getD xs i 0) (at-most top xs t i)
 
-  below-where : (near : Bool) (i : ℕ) → (near && ltb top (getD xs i 0)) ≡ false
-  below-where near i = and-false near (below i)
+-- a grid with no bad entry holds none anywhere
+module _ (bad : ℕ → Bool) (xs : List ℕ) (fine : (i : ℕ) → bad (getD xs i 0) ≡ false) where
+  fine-where : (there : Bool) (i : ℕ) → (there && bad (getD xs i 0)) ≡ false
+  fine-where there i = and-false there (fine i)
 
-  over-none : (a b : ℕ) → over top a b xs ≡ false
-  unfolding over
-  over-none a b = some-idle (b - a) _ (λ i. below (a + i))
+  none-bad : (a b : ℕ) → someBad bad a b xs ≡ false
+  unfolding someBad
+  none-bad a b = some-idle (b - a) _ (λ i. fine (a + i))
 
 marks-fine : (ms : List ℕ) → Bits ms → (w x y : ℕ) → badMarks ms w x y ≡ false
 unfolding badMarks
 marks-fine ms b w x y =
     let i = y * w + x in
-    rw (below ms 1 b i, below-where ms 1 b (ltb 0 x) (i - 1), below-where ms 1 b (ltb 0 y) (i - w), below-where ms 1 b (ltb 0 y && ltb (x + 1) w) (i - (w - 1)))
+    rw (k i, fine-where badMark ms k (ltb 0 x) (i - 1), fine-where badMark ms k (ltb 0 y) (i - w), fine-where badMark ms k (ltb 0 y && ltb (x + 1) w) (i - (w - 1)))
+  where
+    k : (i : ℕ) → badMark (getD ms i 0) ≡ false
+    k i = le-ltb 1 (getD ms i 0) (b i)
 
-qps-fine : (qps : List ℕ) → ((i : ℕ) → getD qps i 0 ≤ 51) → (w x y : ℕ) → badQps qps w x y ≡ false
+qps-fine : (qps : List ℕ) → ((i : ℕ) → badQp (getD qps i 0) ≡ false) → (w x y : ℕ) → badQps qps w x y ≡ false
 unfolding badQps
-qps-fine qps b w x y =
+qps-fine qps k w x y =
     let i = y * w + x in
-    rw (below qps 51 b i, below-where qps 51 b (ltb 0 x) (i - 1), below-where qps 51 b (ltb 0 y) (i - w))
+    rw (k i, fine-where badQp qps k (ltb 0 x) (i - 1), fine-where badQp qps k (ltb 0 y) (i - w))
 
-pub passes-valid : (d : Given) → Sound d → Passes (d .size .w) (d .size .h) (earlyOf d) (Fit d)
+pub passes-valid : (d : Lent) → Sound d → Passes (d .size .w) (d .size .h) (earlyOf d) (Fit d)
 unfolding earlyOf
 passes-valid d v s f l b x y hx hy =
-    none-applies (checks d (length (s .0 .luma)) (length (s .0 .u)) (length (s .0 .v)) (s .1) (x, y)) (
-      v .sides,
-      (
-        rw (lt-leb (d .size .w) x hx, lt-leb (d .size .h) y hy),
-        (
-          rw (eq-eqb _ _ (f .luma), eq-eqb _ _ (f .cb), eq-eqb _ _ (f .cr)),
-          (
-            rw (v .lengths, eq-eqb _ _ l),
-            (
-              v .range,
-              (
-                rw (below-where (d .t8s) 1 (v .flag) (not (eqb (length (d .t8s)) 0)) (y * d .size .w + x), marks-fine (s .1) b (d .size .w) x y),
-                (qps-fine (d .qps) (v .qp) (d .size .w) x y, (over-none (d .strengths) 4 (v .strength) _ _, tt)),
-              ),
-            ),
-          ),
-        ),
-      ),
-    )
+    none-applies (visitChecks d (length (s .0 .luma)) (length (s .0 .u)) (length (s .0 .v)) (s .1) (x, y))
+    (v .sides, (place, (planes, (grids, (v .range, (flags, (qps-fine (d .qps) (v .qp) (d .size .w) x y, (none-bad badStrength (d .strengths) (v .strength) _ _, tt))))))))
+  where
+    place : outsideOf (d .size) x y ≡ false
+    place = rw (lt-leb (d .size .w) x hx, lt-leb (d .size .h) y hy)
+
+    planes : badPlanes (d .size .w * d .size .h) (length (s .0 .luma)) (length (s .0 .u)) (length (s .0 .v)) ≡ false
+    planes = rw (eq-eqb _ _ (f .luma), eq-eqb _ _ (f .u), eq-eqb _ _ (f .v))
+
+    grids : (badLent (d .size .w * d .size .h) (length (d .strengths)) (length (d .qps)) (length (d .t8s)) || not (eqb (length (s .1)) (d .size .w * d .size .h))) ≡ false
+    grids = rw (v .lengths, eq-eqb _ _ l)
+
+    flags : (someBadFlag (y * d .size .w + x) (y * d .size .w + x + 1) (d .t8s) || badMarks (s .1) (d .size .w) x y) ≡ false
+    flags =
+        rw (and-false (not (eqb (length (d .t8s)) 0)) (none-bad badFlag (d .t8s) (v .flag) (y * d .size .w + x) (y * d .size .w + x + 1)), marks-fine (s .1) b (d .size .w) x y)

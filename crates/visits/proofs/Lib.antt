@@ -13,7 +13,6 @@ pub mod Neighbours
 pub mod Old
 pub mod OneOutcome
 pub mod Outcome
-pub mod Passed
 pub mod Progress
 pub mod Refused
 pub mod Rounds
@@ -21,4 +20,5 @@ pub mod RoundsRun
 pub mod Unique
 pub mod Unseen
 pub mod Verdict
+pub mod VisitFits
 pub mod Wrong

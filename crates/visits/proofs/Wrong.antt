@@ -23,41 +23,42 @@ use Rattle.edges.specs.Picture.{Planes, planes, lumaOf, flagAt, macroblockAt, s
 use Rattle.visits.specs.Visit.{At, State, fresh}
 use Rattle.visits.specs.AnyOrder.{Demand3}
 use Rattle.visits.specs.Old.{oldVisit}
-use Rattle.visits.specs.Checks.{Given, given, heldOf, earlyOf, Sound, Fit}
+use Rattle.pictures.specs.Checks.{Lent, lent, heldOf}
+use Rattle.visits.specs.Checks.{earlyOf, Sound, Fit}
 use Rattle.visits.specs.Promise.{VisitOutcome}
-use Rattle.visits.specs.Fault.{band, outer, faultGiven}
+use Rattle.visits.specs.Fault.{band, outerStrengths, faultLent}
 use Rattle.visits.proofs.Marks.{fresh-bits}
-use Rattle.visits.proofs.Instance.{fit-kept, passes-valid}
+use Rattle.visits.proofs.Instance.{fit-kept, none-over, passes-valid}
 use Rattle.visits.proofs.Fault as fault
 use Rattle.visits.proofs.Refused as refused
 use Rattle.visits.proofs.Refused.{idleVisit, firstOnly, turnsAway, readyFirst, marksRefused}
 
 -- ---- always refuses: with valid data, on any picture
-pub always-refuses : (d : Given) → Sound d → 0 < d .size .w → 0 < d .size .h → (start : Planes) → Fit d start → (number : State Planes → At → ℕ)
+pub always-refuses : (d : Lent) → Sound d → 0 < d .size .w → 0 < d .size .h → (start : Planes) → Fit d start → (number : State Planes → At → ℕ)
     → ((t : State Planes) (r : At) → number t r ≢ 0) → Demand3 (d .size .w) (d .size .h) (stepOf (heldOf d)) (earlyOf d) (λ t r. (number t r, t)) → ⊥
 always-refuses d v w h start f =
     refused.always-refuses (stepOf (heldOf d)) (earlyOf d) start (d .size .w) (d .size .h) w h
     (passes-valid d v (start, fresh (d .size .w) (d .size .h)) f (length-replicate (d .size .w * d .size .h) 0) (fresh-bits (d .size .w * d .size .h)) 0 0 w h)
 
 -- ---- two macroblocks side by side, the upper row of Fault.antt
-abbrev pub pairGiven : Given
-pairGiven = given (record { w = 2; h = 1 }) (record { a = pos 0; b = pos 0; chroma = pos 0 }) (outer 0 0 ++ outer 1 0) (40 ∷ 40 ∷ []) []
+abbrev pub pairLent : Lent
+pairLent = lent (record { w = 2; h = 1 }) (record { a = pos 0; b = pos 0; chroma = pos 0 }) (outerStrengths 0 0 ++ outerStrengths 1 0) (40 ∷ 40 ∷ []) []
 
 abbrev pub pair : Planes
 pair = planes (band 16 16 100 16 103) (replicate 128 128) (replicate 128 128)
 
-pair-sound : Sound pairGiven
-pair-sound = record { sides = refl; lengths = refl; range = refl; flag = at-most 1 [] tt; qp = at-most 51 (40 ∷ 40 ∷ []) tt; strength = at-most 4 (outer 0 0 ++ outer 1 0) tt }
+pair-sound : Sound pairLent
+pair-sound = record { sides = refl; lengths = refl; range = refl; flag = none-over 1 [] tt; qp = none-over 51 (40 ∷ 40 ∷ []) tt; strength = none-over 4 (outerStrengths 0 0 ++ outerStrengths 1 0) tt }
 
-pair-fit : Fit pairGiven pair
+pair-fit : Fit pairLent pair
 unfolding band
-pair-fit = record { luma = refl; cb = refl; cr = refl }
+pair-fit = record { luma = refl; u = refl; v = refl }
 
-pair-clear : (p : Planes) → Fit pairGiven p → (a b x : ℕ) → T (bounded 1 (a ∷ b ∷ [])) → x < 2 → earlyOf pairGiven (p, a ∷ b ∷ []) (x, 0) ≡ 0
-pair-clear p f a b x m h = passes-valid pairGiven pair-sound (p, a ∷ b ∷ []) f refl (at-most 1 (a ∷ b ∷ []) m) x 0 h (omega arith)
+pair-clear : (p : Planes) → Fit pairLent p → (a b x : ℕ) → T (bounded 1 (a ∷ b ∷ [])) → x < 2 → earlyOf pairLent (p, a ∷ b ∷ []) (x, 0) ≡ 0
+pair-clear p f a b x m h = passes-valid pairLent pair-sound (p, a ∷ b ∷ []) f refl (at-most 1 (a ∷ b ∷ []) m) x 0 h (omega arith)
 
 abbrev pub pairStep : ℕ → Planes → Planes
-pairStep = stepOf (heldOf pairGiven)
+pairStep = stepOf (heldOf pairLent)
 
 -- filtering the second changes sample (15, 0)
 pair-moves : pairStep 1 (pairStep 0 pair) ≢ pairStep 0 pair
@@ -65,54 +66,54 @@ unfolding band macroblockAt lumaOf flagAt upTo lumaRule lumaEdge lumaWay lumaBot
 pair-moves e = let k : _≡_ {A = ℕ} 101 100 = ap (λ (p : Planes). getD (p .luma) 15 0) e in omega arith
 
 -- filters on the first visit and afterwards only sets marks
-pub first-only : Demand3 2 1 pairStep (earlyOf pairGiven) (firstOnly 2 pairStep (earlyOf pairGiven)) → ⊥
+pub first-only : Demand3 2 1 pairStep (earlyOf pairLent) (firstOnly 2 pairStep (earlyOf pairLent)) → ⊥
 first-only =
-    refused.first-only pairStep (earlyOf pairGiven) pair (pair-clear pair pair-fit 0 0 0 tt (omega arith))
-    (pair-clear (pairStep 0 pair) (fit-kept pairGiven 0 pair pair-fit) 1 0 1 tt (omega arith)) pair-moves
+    refused.first-only pairStep (earlyOf pairLent) pair (pair-clear pair pair-fit 0 0 0 tt (omega arith))
+    (pair-clear (pairStep 0 pair) (fit-kept pairLent 0 pair pair-fit) 1 0 1 tt (omega arith)) pair-moves
 
 -- refuses a ready macroblock with another number
-pub turns-away : Demand3 2 1 pairStep (earlyOf pairGiven) (turnsAway 2 pairStep (earlyOf pairGiven)) → ⊥
+pub turns-away : Demand3 2 1 pairStep (earlyOf pairLent) (turnsAway 2 pairStep (earlyOf pairLent)) → ⊥
 turns-away =
-    refused.turns-away pairStep (earlyOf pairGiven) pair (pair-clear pair pair-fit 0 0 0 tt (omega arith))
-    (pair-clear (pairStep 0 pair) (fit-kept pairGiven 0 pair pair-fit) 1 0 1 tt (omega arith))
+    refused.turns-away pairStep (earlyOf pairLent) pair (pair-clear pair pair-fit 0 0 0 tt (omega arith))
+    (pair-clear (pairStep 0 pair) (fit-kept pairLent 0 pair pair-fit) 1 0 1 tt (omega arith))
 
 -- asks 14 before 13: no answer and no state after it is allowed
-pub ready-first : (t : State Planes) → VisitOutcome pairGiven (pair, 0 ∷ 1 ∷ []) (1, 0) (readyFirst 2 pairStep (earlyOf pairGiven) (pair, 0 ∷ 1 ∷ []) (1, 0)) t → ⊥
-ready-first = refused.ready-first pairStep (earlyOf pairGiven) pair (pair-clear pair pair-fit 0 1 1 tt (omega arith))
+pub ready-first : (t : State Planes) → VisitOutcome pairLent (pair, 0 ∷ 1 ∷ []) (1, 0) (readyFirst 2 pairStep (earlyOf pairLent) (pair, 0 ∷ 1 ∷ []) (1, 0)) t → ⊥
+ready-first = refused.ready-first pairStep (earlyOf pairLent) pair (pair-clear pair pair-fit 0 1 1 tt (omega arith))
 
 -- sets its mark though it refuses
-pub marks-refused : Demand3 2 1 pairStep (earlyOf pairGiven) (marksRefused 2 pairStep (earlyOf pairGiven)) → ⊥
-marks-refused = refused.marks-refused pairStep (earlyOf pairGiven) pair (pair-clear pair pair-fit 0 0 1 tt (omega arith))
+pub marks-refused : Demand3 2 1 pairStep (earlyOf pairLent) (marksRefused 2 pairStep (earlyOf pairLent)) → ⊥
+marks-refused = refused.marks-refused pairStep (earlyOf pairLent) pair (pair-clear pair pair-fit 0 0 1 tt (omega arith))
 
 -- ---- one macroblock, with strength 1 on its second vertical edge
 abbrev oneStrengths : List ℕ
 oneStrengths = replicate 4 0 ++ replicate 4 1 ++ replicate 24 0
 
-abbrev pub oneGiven : Given
-oneGiven = given (record { w = 1; h = 1 }) (record { a = pos 0; b = pos 0; chroma = pos 0 }) oneStrengths (40 ∷ []) []
+abbrev pub oneLent : Lent
+oneLent = lent (record { w = 1; h = 1 }) (record { a = pos 0; b = pos 0; chroma = pos 0 }) oneStrengths (40 ∷ []) []
 
 abbrev pub one : Planes
 one = planes (band 16 4 100 12 103) (replicate 64 128) (replicate 64 128)
 
-one-sound : Sound oneGiven
-one-sound = record { sides = refl; lengths = refl; range = refl; flag = at-most 1 [] tt; qp = at-most 51 (40 ∷ []) tt; strength = at-most 4 oneStrengths tt }
+one-sound : Sound oneLent
+one-sound = record { sides = refl; lengths = refl; range = refl; flag = none-over 1 [] tt; qp = none-over 51 (40 ∷ []) tt; strength = none-over 4 oneStrengths tt }
 
-one-fit : Fit oneGiven one
+one-fit : Fit oneLent one
 unfolding band
-one-fit = record { luma = refl; cb = refl; cr = refl }
+one-fit = record { luma = refl; u = refl; v = refl }
 
-one-moves : stepOf (heldOf oneGiven) 0 one ≢ one
+one-moves : stepOf (heldOf oneLent) 0 one ≢ one
 unfolding band macroblockAt lumaOf flagAt upTo lumaRule lumaEdge lumaWay lumaBoth lumaAt lumaLine normalLine lumaNormal nudgeOf innerOf deltaOf clip3 clip1 average indexOf alphas betas tc0s
 one-moves e = let k : _≡_ {A = ℕ} 101 100 = ap (λ (p : Planes). getD (p .luma) 3 0) e in omega arith
 
 -- leaves the planes untouched
-pub planes-untouched : Demand3 1 1 (stepOf (heldOf oneGiven)) (earlyOf oneGiven) (idleVisit 1 (stepOf (heldOf oneGiven)) (earlyOf oneGiven)) → ⊥
+pub planes-untouched : Demand3 1 1 (stepOf (heldOf oneLent)) (earlyOf oneLent) (idleVisit 1 (stepOf (heldOf oneLent)) (earlyOf oneLent)) → ⊥
 planes-untouched =
-    refused.planes-untouched (stepOf (heldOf oneGiven)) (earlyOf oneGiven) one
-    (passes-valid oneGiven one-sound (one, 0 ∷ []) one-fit refl (at-most 1 (0 ∷ []) tt) 0 0 (omega arith) (omega arith)) one-moves
+    refused.planes-untouched (stepOf (heldOf oneLent)) (earlyOf oneLent) one
+    (passes-valid oneLent one-sound (one, 0 ∷ []) one-fit refl (at-most 1 (0 ∷ []) tt) 0 0 (omega arith) (omega arith)) one-moves
 
 -- ---- readiness without the upper right neighbour, on the picture of Fault.antt: already the answer to its
 -- second visit is wrong
 pub without-upper-right : (u v : Plane) → length u ≡ 256 → length v ≡ 256
-    → Demand3 2 2 (stepOf (heldOf faultGiven)) (earlyOf faultGiven) (oldVisit 2 (stepOf (heldOf faultGiven)) (earlyOf faultGiven)) → ⊥
-without-upper-right u v lu lv = refused.without-upper-right (fault.step u v lu lv) (earlyOf faultGiven) (fault.start u v lu lv) (fault.old-clear u v lu lv)
+    → Demand3 2 2 (stepOf (heldOf faultLent)) (earlyOf faultLent) (oldVisit 2 (stepOf (heldOf faultLent)) (earlyOf faultLent)) → ⊥
+without-upper-right u v lu lv = refused.without-upper-right (fault.step u v lu lv) (earlyOf faultLent) (fault.start u v lu lv) (fault.old-clear u v lu lv)

@@ -8,30 +8,30 @@ use Rattle.laws.specs.Cases.{Case}
 use Rattle.lines.specs.Cases as lines
 use Rattle.motion.specs.Cases as motion
 use Rattle.edges.specs.Picture.{Planes, planes}
-use Rattle.visits.specs.Checks.{Given, given}
-use Rattle.visits.specs.Fault.{band, outer, faultLuma, faultGiven}
+use Rattle.pictures.specs.Checks.{Lent, lent}
+use Rattle.visits.specs.Fault.{band, outerStrengths, faultLuma, faultLent}
 use Rattle.visits.specs.Promise.{visitOf, unvisited}
 use Rattle.visits.specs.Visit.{answers}
 
 -- 2 by 2
-abbrev pub square : Planes
-square = planes faultLuma (replicate 256 128) (replicate 256 128)
+abbrev pub squarePlanes : Planes
+squarePlanes = planes faultLuma (replicate 256 128) (replicate 256 128)
 
 -- 1 by 2
-abbrev pub columnGiven : Given
-columnGiven =
-    given (record { w = 1; h = 2 }) (record { a = pos 0; b = pos 0; chroma = pos 0 }) (outer 0 0 ++ outer 0 1) (40 ∷ 40 ∷ []) []
+abbrev pub columnLent : Lent
+columnLent =
+    lent (record { w = 1; h = 2 }) (record { a = pos 0; b = pos 0; chroma = pos 0 }) (outerStrengths 0 0 ++ outerStrengths 0 1) (40 ∷ 40 ∷ []) []
 
-abbrev pub column : Planes
-column = planes (band 16 16 100 0 0 ++ band 16 16 105 0 0) (replicate 128 128) (replicate 128 128)
+abbrev pub columnPlanes : Planes
+columnPlanes = planes (band 16 16 100 0 0 ++ band 16 16 105 0 0) (replicate 128 128) (replicate 128 128)
 
 -- the answers of visits of (0, 0), then (0, 1)
-abbrev pub asked : Given → Planes → List ℕ
+abbrev pub asked : Lent → Planes → List ℕ
 asked d p = answers (visitOf d) ((0, 0) ∷ (0, 1) ∷ []) (unvisited d p)
 
-unfoldable pub cases : List Case
-cases = record { number = 12; given = asked faultGiven square ++ asked columnGiven column; paper = 0 ∷ 14 ∷ 0 ∷ 0 ∷ [] } ∷ []
+unfoldable pub visitCases : List Case
+visitCases = record { number = 12; given = asked faultLent squarePlanes ++ asked columnLent columnPlanes; paper = 0 ∷ 14 ∷ 0 ∷ 0 ∷ [] } ∷ []
 
 -- document 01, "The proved table": P1 to P8, P9 to P11, P12
 abbrev pub twelve : List Case
-twelve = lines.cases ++ motion.motionCases ++ cases
+twelve = lines.cases ++ motion.motionCases ++ visitCases

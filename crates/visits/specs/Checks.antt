@@ -1,99 +1,74 @@
--- The checks of a visit before 13, each as whether it applies: document 01, "Numbers a call returns". It
--- reads strengths and flag of its macroblock, QPs of it and of its left and upper neighbours, and its own,
--- the left, the upper and the upper right mark.
-use Prim.Native.Nat.{ℕ, _+_, _-_, _*_, _≤_}
+-- The checks of a visit before 13: document 01, "Numbers a call returns". They are those of every filtering
+-- call. A visit reads strengths and flag of its macroblock, QPs of it and of its left and upper neighbours,
+-- and its own, the left, the upper and the upper right mark.
+use Prim.Native.Nat.{ℕ, _+_, _-_, _*_}
 use mathlib.Core.Path.{_≡_}
 use mathlib.Core.Bool.{Bool, false, not, _&&_, _||_}
-use mathlib.Core.List.{List, [], _∷_, _++_}
+use mathlib.Core.List.{List}
 use lib.Dec.{eqb, ltb}
 use lib.ListN.{length, getD}
 use Rattle.laws.specs.Refusal.{refusal}
-use Rattle.edges.specs.Picture.{Planes, Held, held}
-use Rattle.edges.specs.declared.Offsets.{Offsets}
-use Rattle.edges.specs.declared.Size.{Size}
+use Rattle.edges.specs.Picture.{Planes}
 use Rattle.strengths.specs.Checks.{badSize, outsideOf}
-use Rattle.pictures.specs.Filtering.{badPlanes, badLent, badOffsets, over}
+use Rattle.pictures.specs.Checks.{Lent, badLent, badOffsets, badFlag, badQp, badStrength, someBadFlag, someBadStrength, Reads, filterChecks}
 use Rattle.visits.specs.Visit.{At, State}
 
--- what is held the same throughout: size, offsets, strengths, QPs, 8x8 flags
-pub record Given : Type 0 where
-  pub size : Size
-  pub offsets : Offsets
-  pub strengths : List ℕ
-  pub qps : List ℕ
-  pub t8s : List ℕ
+-- 7: a value that is no mark
+abbrev pub badMark : ℕ → Bool
+badMark m = ltb 1 m
 
-abbrev pub given : Size → Offsets → List ℕ → List ℕ → List ℕ → Given
-given size o s q t = record { size = size; offsets = o; strengths = s; qps = q; t8s = t }
-
--- .. as the filter takes it
-abbrev pub heldOf : Given → Held
-heldOf d = held (d .size .w) (d .strengths) (d .qps) (d .t8s) (d .offsets)
-
--- where there is a neighbour, d places before i, its entry is above `top`
-abbrev pub overBefore : Bool → List ℕ → ℕ → ℕ → ℕ → Bool
-overBefore near xs i d top = near && ltb top (getD xs (i - d) 0)
-
--- 7: the flag (an empty grid has none), a mark
-abbrev pub badFlag : List ℕ → ℕ → Bool
-badFlag t8s i = not (eqb (length t8s) 0) && ltb 1 (getD t8s i 0)
+-- where there is a neighbour, d places before i, its entry is bad
+abbrev pub badBefore : (ℕ → Bool) → Bool → List ℕ → ℕ → ℕ → Bool
+badBefore bad there xs i d = there && bad (getD xs (i - d) 0)
 
 unfoldable pub badMarks : List ℕ → ℕ → ℕ → ℕ → Bool
 badMarks ms w x y =
-    ltb 1 (getD ms i 0) || overBefore (ltb 0 x) ms i 1 1 || overBefore (ltb 0 y) ms i w 1 || overBefore (ltb 0 y && ltb (x + 1) w) ms i (w - 1) 1
+    badMark (getD ms i 0)
+    || badBefore badMark (ltb 0 x) ms i 1
+    || badBefore badMark (ltb 0 y) ms i w
+    || badBefore badMark (ltb 0 y && ltb (x + 1) w) ms i (w - 1)
   where
     i : ℕ
     i = y * w + x
 
--- 8: a QP
+-- 8
 unfoldable pub badQps : List ℕ → ℕ → ℕ → ℕ → Bool
-badQps qps w x y = ltb 51 (getD qps i 0) || overBefore (ltb 0 x) qps i 1 51 || overBefore (ltb 0 y) qps i w 51
+badQps qps w x y = badQp (getD qps i 0) || badBefore badQp (ltb 0 x) qps i 1 || badBefore badQp (ltb 0 y) qps i w
   where
     i : ℕ
     i = y * w + x
 
--- 9: one of its 32 strengths
-abbrev pub badOwn : List ℕ → ℕ → Bool
-badOwn strengths i = over 4 (32 * i) (32 * i + 32) strengths
-
--- those that read lengths alone; ly, lu, lv are those of the planes
-abbrev pub numbers : Given → ℕ → ℕ → ℕ → ℕ → At → List (ℕ × Bool)
-numbers d ly lu lv lm r =
-    (1, badSize (d .size))
-    ∷ (2, outsideOf (d .size) (r .0) (r .1))
-    ∷ (3, badPlanes n ly lu lv)
-    ∷ (4, badLent n (length (d .strengths)) (length (d .qps)) (length (d .t8s)) || not (eqb lm n))
-    ∷ (6, badOffsets (d .offsets))
-    ∷ []
+-- 7, 8, 9
+abbrev pub visitReads : ℕ → List ℕ → List ℕ → List ℕ → List ℕ → At → Reads
+visitReads w strengths qps t8s ms r = record {
+  flags = someBadFlag i (i + 1) t8s || badMarks ms w (r .0) (r .1);
+  qps = badQps qps w (r .0) (r .1);
+  strengths = someBadStrength i (i + 1) strengths;
+}
   where
-    n : ℕ
-    n = d .size .w * d .size .h
+    i : ℕ
+    i = r .1 * w + r .0
 
--- those that read entries
-abbrev pub values : ℕ → List ℕ → List ℕ → List ℕ → List ℕ → At → List (ℕ × Bool)
-values w strengths qps t8s ms r =
-    (7, badFlag t8s (r .1 * w + r .0) || badMarks ms w (r .0) (r .1))
-    ∷ (8, badQps qps w (r .0) (r .1))
-    ∷ (9, badOwn strengths (r .1 * w + r .0))
-    ∷ []
+-- a visit is lent marks beside, one for each macroblock; luma, u, v are the lengths of the planes
+abbrev pub visitChecks : Lent → ℕ → ℕ → ℕ → List ℕ → At → List (ℕ × Bool)
+visitChecks d luma u v ms r =
+    filterChecks d luma u v (outsideOf (d .size) (r .0) (r .1)) (not (eqb (length ms) (d .size .w * d .size .h)))
+    (visitReads (d .size .w) (d .strengths) (d .qps) (d .t8s) ms r)
 
-abbrev pub checks : Given → ℕ → ℕ → ℕ → List ℕ → At → List (ℕ × Bool)
-checks d ly lu lv ms r = numbers d ly lu lv (length ms) r ++ values (d .size .w) (d .strengths) (d .qps) (d .t8s) ms r
-
-unfoldable pub earlyOf : Given → State Planes → At → ℕ
-earlyOf d s r = refusal (checks d (length (s .0 .luma)) (length (s .0 .u)) (length (s .0 .v)) (s .1) r)
+unfoldable pub earlyOf : Lent → State Planes → At → ℕ
+earlyOf d s r = refusal (visitChecks d (length (s .0 .luma)) (length (s .0 .u)) (length (s .0 .v)) (s .1) r)
 
 -- ---- "the same valid size, buffer lengths, strengths, QPs, 8x8 flags and offsets": valid wherever a visit
 -- may read
-pub record Sound (d : Given) : Type 0 where
+pub record Sound (d : Lent) : Type 0 where
   pub sides : badSize (d .size) ≡ false
   pub lengths : badLent (d .size .w * d .size .h) (length (d .strengths)) (length (d .qps)) (length (d .t8s)) ≡ false
   pub range : badOffsets (d .offsets) ≡ false
-  pub flag : (i : ℕ) → getD (d .t8s) i 0 ≤ 1
-  pub qp : (i : ℕ) → getD (d .qps) i 0 ≤ 51
-  pub strength : (i : ℕ) → getD (d .strengths) i 0 ≤ 4
+  pub flag : (i : ℕ) → badFlag (getD (d .t8s) i 0) ≡ false
+  pub qp : (i : ℕ) → badQp (getD (d .qps) i 0) ≡ false
+  pub strength : (i : ℕ) → badStrength (getD (d .strengths) i 0) ≡ false
 
-pub record Fit (d : Given) (p : Planes) : Type 0 where
+pub record Fit (d : Lent) (p : Planes) : Type 0 where
   pub luma : length (p .luma) ≡ 256 * (d .size .w * d .size .h)
-  pub cb : length (p .u) ≡ 64 * (d .size .w * d .size .h)
-  pub cr : length (p .v) ≡ 64 * (d .size .w * d .size .h)
+  pub u : length (p .u) ≡ 64 * (d .size .w * d .size .h)
+  pub v : length (p .v) ≡ 64 * (d .size .w * d .size .h)

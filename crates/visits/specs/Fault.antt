@@ -7,7 +7,7 @@ use lib.IntN.{pos}
 use lib.ListN.{replicate}
 use Rattle.laws.specs.Places.{Plane}
 use Rattle.edges.specs.Picture.{Held}
-use Rattle.visits.specs.Checks.{Given, given, heldOf}
+use Rattle.pictures.specs.Checks.{Lent, lent, heldOf}
 
 -- n lines, each of m samples a and k samples b
 unfoldable pub band : ℕ → ℕ → ℕ → ℕ → ℕ → Plane
@@ -18,15 +18,15 @@ unfoldable pub faultLuma : Plane
 faultLuma = band 16 16 100 16 103 ++ band 16 16 105 16 104
 
 -- the 32 strengths of a macroblock: s on its left edge, t on its top edge
-abbrev pub outer : ℕ → ℕ → List ℕ
-outer s t = replicate 4 s ++ replicate 12 0 ++ replicate 4 t ++ replicate 12 0
+abbrev pub outerStrengths : ℕ → ℕ → List ℕ
+outerStrengths s t = replicate 4 s ++ replicate 12 0 ++ replicate 4 t ++ replicate 12 0
 
 abbrev pub faultStrengths : List ℕ
-faultStrengths = outer 0 0 ++ outer 1 0 ++ outer 0 1 ++ outer 1 1
+faultStrengths = outerStrengths 0 0 ++ outerStrengths 1 0 ++ outerStrengths 0 1 ++ outerStrengths 1 1
 
-abbrev pub faultGiven : Given
-faultGiven =
-    given (record { w = 2; h = 2 }) (record { a = pos 0; b = pos 0; chroma = pos 0 }) faultStrengths (40 ∷ 40 ∷ 40 ∷ 40 ∷ []) []
+abbrev pub faultLent : Lent
+faultLent =
+    lent (record { w = 2; h = 2 }) (record { a = pos 0; b = pos 0; chroma = pos 0 }) faultStrengths (40 ∷ 40 ∷ 40 ∷ 40 ∷ []) []
 
 abbrev pub faultHeld : Held
-faultHeld = heldOf faultGiven
+faultHeld = heldOf faultLent

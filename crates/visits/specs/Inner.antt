@@ -5,17 +5,17 @@ use mathlib.Core.Path.{_≡_}
 use mathlib.Core.List.{List, _++_}
 use lib.ListN.{take, drop}
 use Rattle.edges.specs.Picture.{Planes}
-use Rattle.visits.specs.Checks.{Given}
+use Rattle.pictures.specs.Checks.{Lent}
 use Rattle.visits.specs.Promise.{visitOf, requests}
 use Rattle.visits.specs.Visit.{At, State, Call, run, answers}
 
 -- (x, y) is a macroblock of a picture w wide, and one of the first n
-pub record Inside (w x y n : ℕ) : Type 0 where
+pub record InPicture (w x y n : ℕ) : Type 0 where
   pub column : x < w
   pub index : y * w + x < n
 
 -- each visit made in turn, and its answer in its place
-pub record Replayed (d : Given) (xs ys : List ℕ) (s : State Planes) (t : State Planes) (out : List ℕ) : Type 0 where
+pub record Replayed (d : Lent) (xs ys : List ℕ) (s : State Planes) (t : State Planes) (out : List ℕ) : Type 0 where
   pub leaves : t ≡ run (visitOf d) (requests xs ys) s
   pub writes : out ≡ answers (visitOf d) (requests xs ys) s
 

@@ -8,18 +8,19 @@ use lib.Dec.{eqb}
 use lib.ListN.{length}
 use Rattle.edges.specs.Picture.{Planes, stepOf}
 use Rattle.visits.specs.Visit.{At, State, Call, Outcome, fresh, visit, run, answers}
-use Rattle.visits.specs.Checks.{Given, heldOf, earlyOf}
+use Rattle.pictures.specs.Checks.{Lent, heldOf}
+use Rattle.visits.specs.Checks.{earlyOf}
 
 -- the visit of the theory, with the filter of demand 2 and the checks of document 01
-abbrev pub visitOf : Given → Call Planes
+abbrev pub visitOf : Lent → Call Planes
 visitOf d = visit (d .size .w) (stepOf (heldOf d)) (earlyOf d)
 
 -- a picture with nothing visited
-abbrev pub unvisited : Given → Planes → State Planes
+abbrev pub unvisited : Lent → Planes → State Planes
 unvisited d start = (start, fresh (d .size .w) (d .size .h))
 
 -- the answer n and the state t that a visit of r in the state s comes to
-abbrev pub VisitOutcome : Given → State Planes → At → ℕ → State Planes → Type 0
+abbrev pub VisitOutcome : Lent → State Planes → At → ℕ → State Planes → Type 0
 VisitOutcome d = Outcome (d .size .w) (stepOf (heldOf d)) (earlyOf d)
 
 -- ---- replay: columns xs and rows ys, and room `out` for the answers
@@ -30,7 +31,7 @@ abbrev pub uneven : List ℕ → List ℕ → List ℕ → Bool
 uneven xs ys out = not (eqb (length ys) (length xs)) || not (eqb (length out) (length xs))
 
 -- lists of different lengths are refused with 4 and change no byte
-pub record ReplayOutcome (d : Given) (xs ys : List ℕ) (s : State Planes) (out : List ℕ) (n : ℕ) (t : State Planes) (out′ : List ℕ) : Type 0 where
+pub record ReplayOutcome (d : Lent) (xs ys : List ℕ) (s : State Planes) (out : List ℕ) (n : ℕ) (t : State Planes) (out′ : List ℕ) : Type 0 where
   pub says : n ≡ cond (uneven xs ys out) 4 0
   pub leaves : t ≡ cond (uneven xs ys out) s (run (visitOf d) (requests xs ys) s)
   pub writes : out′ ≡ cond (uneven xs ys out) out (answers (visitOf d) (requests xs ys) s)

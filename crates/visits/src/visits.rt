@@ -5,22 +5,22 @@ ghost use Prim.Native.Nat.{_-_, _<_, _≤_};
 ghost use lib.Dec.{eqb};
 ghost use lib.ListN.{length, getD};
 ghost use Rattle.edges.specs.Picture.{planes};
-ghost use Rattle.visits.specs.Checks.{given};
-ghost use Rattle.visits.specs.Inner.{Inside, Replayed};
+ghost use Rattle.pictures.specs.Checks.{lent};
+ghost use Rattle.visits.specs.Inner.{InPicture, Replayed};
 ghost use Rattle.visits.specs.Promise.{VisitOutcome, ReplayOutcome};
 ghost use Rattle.visits.specs.Visit.{waiting};
-use crate::checks::refuse;
+use crate::checks::refuse_early;
 use edges::Offsets;
 use edges::Size;
 use edges::picture::macroblock;
 use lines::tables::all;
 
 // Where there is a neighbour d places before i, it is unmarked.
-fn lacks(near: bool, marks: &[u8], i: usize, d: usize) -> bool
-    requires { ⌜ (i < length (now marks)) × (near ≡ true → d ≤ i) ⌝ }
-    ensures { λ r. ⌜ r ≡ (near && not (eqb (getD (now (marks .entry)) (i - d) 0) 1)) ⌝ }
+fn lacks(there: bool, marks: &[u8], i: usize, d: usize) -> bool
+    requires { ⌜ (i < length (now marks)) × (there ≡ true → d ≤ i) ⌝ }
+    ensures { λ r. ⌜ r ≡ (there && not (eqb (getD (now (marks .entry)) (i - d) 0) 1)) ⌝ }
 {
-    if near {
+    if there {
         return marks[i - d] != 1;
     }
     false
@@ -28,7 +28,7 @@ fn lacks(near: bool, marks: &[u8], i: usize, d: usize) -> bool
 
 // Check 14.
 fn waits(marks: &[u8], w: usize, x: usize, y: usize) -> bool
-    requires { ⌜ Inside w x y (length (now marks)) ⌝ }
+    requires { ⌜ InPicture w x y (length (now marks)) ⌝ }
     ensures { λ r. ⌜ r ≡ waiting w (now (marks .entry)) x y ⌝ }
 {
     let i = y * w + x;
@@ -52,9 +52,9 @@ pub fn visit(
     t8s: &[u8],
     marks: &mut [u8],
 ) -> u32
-    ensures { λ r. ⌜ VisitOutcome (given size o (now (strengths .entry)) (now (qps .entry)) (now (t8s .entry))) (planes (now (luma .entry)) (now (u .entry)) (now (v .entry)), now (marks .entry)) (x, y) r (planes (now (luma .exit)) (now (u .exit)) (now (v .exit)), now (marks .exit)) ⌝ }
+    ensures { λ r. ⌜ VisitOutcome (lent size o (now (strengths .entry)) (now (qps .entry)) (now (t8s .entry))) (planes (now (luma .entry)) (now (u .entry)) (now (v .entry)), now (marks .entry)) (x, y) r (planes (now (luma .exit)) (now (u .exit)) (now (v .exit)), now (marks .exit)) ⌝ }
 {
-    let n = refuse(
+    let n = refuse_early(
         size,
         x,
         y,
@@ -100,7 +100,7 @@ fn each(
     answers: &mut [u32],
 )
     requires { ⌜ (length (now ys) ≡ length (now xs)) × (length (now answers) ≡ length (now xs)) ⌝ }
-    ensures { λ _. ⌜ Replayed (given size o (now (strengths .entry)) (now (qps .entry)) (now (t8s .entry))) (now (xs .entry)) (now (ys .entry)) (planes (now (luma .entry)) (now (u .entry)) (now (v .entry)), now (marks .entry)) (planes (now (luma .exit)) (now (u .exit)) (now (v .exit)), now (marks .exit)) (now (answers .exit)) ⌝ }
+    ensures { λ _. ⌜ Replayed (lent size o (now (strengths .entry)) (now (qps .entry)) (now (t8s .entry))) (now (xs .entry)) (now (ys .entry)) (planes (now (luma .entry)) (now (u .entry)) (now (v .entry)), now (marks .entry)) (planes (now (luma .exit)) (now (u .exit)) (now (v .exit)), now (marks .exit)) (now (answers .exit)) ⌝ }
 {
     let mut k: usize = 0;
     while k < xs.len() {
@@ -137,7 +137,7 @@ pub fn replay(
     marks: &mut [u8],
     answers: &mut [u32],
 ) -> u32
-    ensures { λ r. ⌜ ReplayOutcome (given size o (now (strengths .entry)) (now (qps .entry)) (now (t8s .entry))) (now (xs .entry)) (now (ys .entry)) (planes (now (luma .entry)) (now (u .entry)) (now (v .entry)), now (marks .entry)) (now (answers .entry)) r (planes (now (luma .exit)) (now (u .exit)) (now (v .exit)), now (marks .exit)) (now (answers .exit)) ⌝ }
+    ensures { λ r. ⌜ ReplayOutcome (lent size o (now (strengths .entry)) (now (qps .entry)) (now (t8s .entry))) (now (xs .entry)) (now (ys .entry)) (planes (now (luma .entry)) (now (u .entry)) (now (v .entry)), now (marks .entry)) (now (answers .entry)) r (planes (now (luma .exit)) (now (u .exit)) (now (v .exit)), now (marks .exit)) (now (answers .exit)) ⌝ }
 {
     if (ys.len() != xs.len()) | (answers.len() != xs.len()) {
         return 4;

@@ -10,7 +10,7 @@ returns : tie.Need-returns
 returns c =
     let d = c .before .before .before .before .before .before in
     let f = d .before .before .before .before .before .before .before .before .before .before .fits in
-    rows-kept _ _ _ _ _ _ _ (λ i. offsets (toZ-ofZ (f .a) i) (toZ-ofZ (f .b) i) (toZ-ofZ (f .chroma) i)) (d .filter-frame-rows .ensures)
+    rows-kept _ _ _ _ _ _ _ _ _ (λ i. offsets (toZ-ofZ (f .a) i) (toZ-ofZ (f .b) i) (toZ-ofZ (f .chroma) i)) (d .filter-frame-rows .ensures)
 
 pub deblock-rows-spec : {M : Type 1} → statement M
 deblock-rows-spec = tie.close (tie.spec (λ c κs. search needs) (λ c. search needs) (λ c. search needs) (λ c. search needs) returns)

@@ -6,7 +6,7 @@ use native.Mathlib.Omega.{arith}
 use lib.ListN.{length}
 use Rattle.laws.proofs.Loop.{upTo-none, upTo-more, upTo-end}
 use Rattle.edges.specs.Picture.{planes}
-use Rattle.visits.specs.Checks.{given}
+use Rattle.pictures.specs.Checks.{lent}
 use Rattle.recordings.specs.Orders.{turnsOf, visitsTo}
 use Rattle.recordings.proofs.Turns.{turn}
 use Rattle.recordings.proofs.orders.visits_in.Statement.{statement}
@@ -21,7 +21,7 @@ Inv way size n o y₀ u₀ v₀ s qps t8s marks₀ t₀ t-end y u v marks t =
     × (length u ≡ length u₀)
     × (length v ≡ length v₀)
     × (length marks ≡ length marks₀)
-    × ((planes y u v, marks) ≡ visitsTo t way (given size o s qps t8s) n (planes y₀ u₀ v₀, marks₀))
+    × ((planes y u v, marks) ≡ visitsTo t way (lent size o s qps t8s) n (planes y₀ u₀ v₀, marks₀))
 
 abbrev μ : tie.MeasureT-loop
 μ way size n o y₀ u₀ v₀ s qps t8s marks₀ t₀ t-end y u v marks t = t-end - t

@@ -8,7 +8,7 @@ use lib.ListN.{length, length-set}
 use Rattle.edges.specs.Picture.{planes}
 use Rattle.visits.specs.Promise.{requests, visitOf}
 use Rattle.visits.specs.Inner.{Served}
-use Rattle.visits.specs.Checks.{given}
+use Rattle.pictures.specs.Checks.{lent}
 use Rattle.visits.proofs.Calls.{requests-length, served-none, served-turn, served-all}
 use Rattle.visits.proofs.visits.each.Statement.{statement}
 use Rattle.visits.proofs.visits.each.Tie as tie
@@ -21,7 +21,7 @@ Inv size o xs ys luma₀ u₀ v₀ strengths qps t8s marks₀ answers₀ k₀ lu
     × (length v ≡ length v₀)
     × (length marks ≡ length marks₀)
     × (length answers ≡ length answers₀)
-    × Served (visitOf (given size o strengths qps t8s)) (requests xs ys) (planes luma₀ u₀ v₀, marks₀) k (planes luma u v, marks) answers
+    × Served (visitOf (lent size o strengths qps t8s)) (requests xs ys) (planes luma₀ u₀ v₀, marks₀) k (planes luma u v, marks) answers
 
 abbrev μ : tie.MeasureT-loop
 μ size o xs ys luma₀ u₀ v₀ strengths qps t8s marks₀ answers₀ k₀ luma u v marks answers k = length xs - k

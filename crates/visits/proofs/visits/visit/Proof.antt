@@ -8,14 +8,15 @@ use lib.ListN.{length}
 use Rattle.edges.specs.Picture.{Planes, planes}
 use Rattle.edges.proofs.Pictures.{step-index}
 use Rattle.visits.specs.Visit.{At, State}
-use Rattle.visits.specs.Checks.{Given, given, heldOf, earlyOf}
+use Rattle.pictures.specs.Checks.{Lent, lent, heldOf}
+use Rattle.visits.specs.Checks.{earlyOf}
 use Rattle.visits.proofs.Outcome.{answer-early, answer-13, answer-14, answer-0, refused-outcome, done-outcome}
-use Rattle.visits.proofs.Passed.{Good, all-good, index, inside, room}
+use Rattle.visits.proofs.VisitFits.{VisitFits, checked-visit-fits, index, in-picture, room}
 use Rattle.visits.proofs.visits.visit.Statement.{statement}
 use Rattle.visits.proofs.visits.visit.Tie as tie
 
-abbrev data-of : tie.Start → Given
-data-of s = let a = s .args in given (a .size) (a .o) (a .strengths .now) (a .qps .now) (a .t8s .now)
+abbrev data-of : tie.Start → Lent
+data-of s = let a = s .args in lent (a .size) (a .o) (a .strengths .now) (a .qps .now) (a .t8s .now)
 
 abbrev state : tie.Start → State Planes
 state s = let a = s .args in (planes (a .luma .now) (a .u .now) (a .v .now), a .marks .now)
@@ -29,12 +30,12 @@ start c = c .before .before .before .before .before .before .before .before .bef
 
 zero : (c : tie.Else1) → let s = start c in earlyOf (data-of s) (state s) (asked s) ≡ 0
 unfolding earlyOf
-zero c = sym (c .before .refuse .ensures) ∙ c .if1 .left
+zero c = sym (c .before .refuse-early .ensures) ∙ c .if1 .left
 
 ok : (c : tie.Else1) → let s = start c in let a = s .args in
-    Good (data-of s) (length (a .luma .now)) (length (a .u .now)) (length (a .v .now)) (length (a .marks .now)) (asked s)
+    VisitFits (data-of s) (length (a .luma .now)) (length (a .u .now)) (length (a .v .now)) (length (a .marks .now)) (asked s)
 unfolding earlyOf
-ok c = let s = start c in let a = s .args in all-good (data-of s) (length (a .luma .now)) (length (a .u .now)) (length (a .v .now)) (a .marks .now) (asked s) (zero c)
+ok c = let s = start c in let a = s .args in checked-visit-fits (data-of s) (length (a .luma .now)) (length (a .u .now)) (length (a .v .now)) (a .marks .now) (asked s) (zero c)
 
 place : (c : tie.Else1) → let a = start c .args in a .y * a .size .w + a .x < a .size .w * a .size .h
 place c = let s = start c in index (data-of s) _ _ _ _ (asked s) (ok c)
@@ -44,7 +45,7 @@ returns : tie.Need-returns
 unfolding earlyOf
 returns c =
     let s = c .before .before .before .before .before .before .before .before .before .before in
-    let e = c .before .refuse .ensures in
+    let e = c .before .refuse-early .ensures in
     refused-outcome
     (answer-early (s .args .size .w) (earlyOf (data-of s)) (state s) (asked s) (λ k. c .if1 .taken (e ∙ k)) ∙ sym e) (c .if1 .taken)
 
@@ -62,7 +63,7 @@ waits-requires : tie.Need-waits-requires
 waits-requires c κs =
     let f = past (c .before) in
     let s = start f in
-    inside (data-of s) _ _ _ _ (asked s) (ok f) (length (s .args .marks .now)) (ok f .marks)
+    in-picture (data-of s) _ _ _ _ (asked s) (ok f) (length (s .args .marks .now)) (ok f .marks)
 
 returns-3 : tie.Need-returns-3
 returns-3 c =
@@ -103,8 +104,8 @@ visit-spec =
     (λ c κs. search needs)
     (λ c. search needs)
     returns
-    (λ c. omega (arith, place c, ok c .sides .most))
-    (λ c. omega (arith, place c, ok c .sides .most))
+    (λ c. omega (arith, place c, ok c .fit .sides .most))
+    (λ c. omega (arith, place c, ok c .fit .sides .most))
     (λ c. omega (arith, place (c .before), ok (c .before) .marks))
     (λ c. search needs)
     returns-2

@@ -5,7 +5,7 @@ use Prim.Native.Nat.{ℕ, _-_, _*_, _≤_}
 use native.Mathlib.Nat.{mul-le-mul-right}
 use native.Mathlib.Omega.{arith}
 use lib.Dec.{ltb}
-use Rattle.pictures.specs.Filtering.{qpsFrom}
+use Rattle.pictures.specs.Rows.{qpsFrom}
 
 pub first-le : (w a b : ℕ) → a ≤ b → a * w ≤ b * w
 first-le w a b h = mul-le-mul-right w h

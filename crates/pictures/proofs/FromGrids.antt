@@ -1,4 +1,4 @@
--- The two halves joined: strengths that the flagless call writes for every macroblock make the whole-picture
+-- From the grids to the picture: strengths that the flagless call writes for every macroblock make the whole-picture
 -- call give the standard's picture straight from the grids. Assumes nothing.
 use mathlib.Core.Path.{_≡_, refl, sym, ap, _∙_}
 use mathlib.Core.Bool.{Bool, true, false, cond}
@@ -17,11 +17,12 @@ use Rattle.edges.specs.Picture.{Planes, entries, flagAt, heldBy, held, frameOf}
 use Rattle.edges.specs.declared.Offsets.{Offsets}
 use Rattle.edges.specs.declared.Size.{Size}
 use Rattle.strengths.specs.Calls.{PlainOutcome}
-use Rattle.pictures.specs.Filtering.{lent, FrameOutcome}
+use Rattle.pictures.specs.Checks.{lent}
+use Rattle.pictures.specs.Rows.{FrameOutcome}
 use Rattle.pictures.specs.Standard.{ofIndex, strengthsOf, pictureOf, Derived}
 use Rattle.strengths.specs.Strength.{written}
 use Rattle.strengths.specs.declared.kinds.Plain.{Plain}
-use Rattle.pictures.proofs.Whole.{whole}
+use Rattle.pictures.proofs.Left.{whole}
 use Rattle.strengths.proofs.Written.{written-length, written-at, written-beside}
 
 module _ (g : Grids) (size : Size) (t8s : List ℕ) where
@@ -47,8 +48,8 @@ module _ (g : Grids) (size : Size) (t8s : List ℕ) where
   derived-picture qps s o p d = λ i. frameOf (heldBy (size .w) (derived-strengths s d i) qps t8s o) (size .h) p
 
   -- so is what the whole-picture call leaves of it
-  pub from-grids : (qps s : List ℕ) (o : Offsets) (p p′ : Planes) → Derived g size t8s s → FrameOutcome size o (lent s qps t8s) p 0 p′ → p′ ≡ pictureOf g size qps t8s o p
-  from-grids qps s o p p′ d r = whole size o (lent s qps t8s) p p′ r ∙ derived-picture qps s o p d
+  pub from-grids : (qps s : List ℕ) (o : Offsets) (p p′ : Planes) → Derived g size t8s s → FrameOutcome (lent size o s qps t8s) p 0 p′ → p′ ≡ pictureOf g size qps t8s o p
+  from-grids qps s o p p′ d r = whole (lent size o s qps t8s) p p′ r ∙ derived-picture qps s o p d
 
   -- ---- a derived grid is what one flagless call a macroblock leaves, in raster order, each served: s 0
   -- before the first, s n after the last

@@ -1,0 +1,104 @@
+-- What every filtering call checks, in the order of its checks: document 01, "Numbers a call returns". A call
+-- is lent three planes, strengths, QPs, 8x8 flags; n is the number of macroblocks.
+use Prim.Native.Nat.{ℕ, _+_, _-_, _*_}
+use mathlib.Core.Bool.{Bool, not, _&&_, _||_}
+use mathlib.Core.List.{List, [], _∷_, _++_}
+use lib.Dec.{eqb, ltb}
+use lib.IntN.{ℤ, pos, negsuc}
+use lib.ListN.{length, getD}
+use lib.Signed.{ltZ}
+use Rattle.laws.specs.Some.{some}
+use Rattle.edges.specs.Picture.{Held, held}
+use Rattle.edges.specs.declared.Offsets.{Offsets}
+use Rattle.edges.specs.declared.Size.{Size}
+use Rattle.strengths.specs.Checks.{badSize}
+
+-- what is lent beside the planes, and only read
+pub record Lent : Type 0 where
+  pub size : Size
+  pub offsets : Offsets
+  pub strengths : List ℕ
+  pub qps : List ℕ
+  pub t8s : List ℕ
+
+abbrev pub lent : Size → Offsets → List ℕ → List ℕ → List ℕ → Lent
+lent size o s q t = record { size = size; offsets = o; strengths = s; qps = q; t8s = t }
+
+-- .. as the filter takes it
+abbrev pub heldOf : Lent → Held
+heldOf d = held (d .size .w) (d .strengths) (d .qps) (d .t8s) (d .offsets)
+
+-- 3: a plane has the wrong length
+abbrev pub badPlanes : ℕ → ℕ → ℕ → ℕ → Bool
+badPlanes n luma u v = not (eqb luma (256 * n)) || not (eqb u (64 * n)) || not (eqb v (64 * n))
+
+-- 4: a per-macroblock grid has the wrong length; that of the flags may be empty
+abbrev pub badLent : ℕ → ℕ → ℕ → ℕ → Bool
+badLent n strengths qps t8s = not (eqb strengths (32 * n)) || not (eqb qps n) || not (eqb t8s 0 || eqb t8s n)
+
+-- 6: an offset is out of range
+abbrev pub badOffset : ℤ → Bool
+badOffset o = ltZ o (negsuc 11) || ltZ (pos 12) o
+
+abbrev pub badOffsets : Offsets → Bool
+badOffsets o = badOffset (o .a) || badOffset (o .b) || badOffset (o .chroma)
+
+-- 7, 8, 9: values that are no flag, no QP, no strength. QPs are lent as bytes, and at eight bits the lowest is
+-- 0: none is too low
+abbrev pub badFlag : ℕ → Bool
+badFlag f = ltb 1 f
+
+abbrev pub badQp : ℕ → Bool
+badQp q = ltb 51 q
+
+abbrev pub badStrength : ℕ → Bool
+badStrength s = ltb 4 s
+
+-- an entry from a to b - 1 is bad
+unfoldable pub someBad : (ℕ → Bool) → ℕ → ℕ → List ℕ → Bool
+someBad bad a b xs = some (b - a) (λ i. bad (getD xs (a + i) 0))
+
+-- .. of macroblocks a to b - 1: an empty grid of flags holds no bad one
+abbrev pub someBadFlag : ℕ → ℕ → List ℕ → Bool
+someBadFlag a b t8s = not (eqb (length t8s) 0) && someBad badFlag a b t8s
+
+abbrev pub someBadStrength : ℕ → ℕ → List ℕ → Bool
+someBadStrength a b strengths = someBad badStrength (32 * a) (32 * b) strengths
+
+-- ---- the checks, in three parts: each may be made once those before it have passed. `outside`: what the call
+-- asks for lies outside the picture
+abbrev pub pictureChecks : Size → Bool → ℕ → ℕ → ℕ → List (ℕ × Bool)
+pictureChecks size outside luma u v =
+    (1, badSize size)
+    ∷ (2, outside)
+    ∷ (3, badPlanes (size .w * size .h) luma u v)
+    ∷ []
+
+-- `other`: another grid that it is lent has the wrong length
+abbrev pub gridChecks : ℕ → ℕ → ℕ → ℕ → Bool → Offsets → List (ℕ × Bool)
+gridChecks n strengths qps t8s other o =
+    (4, badLent n strengths qps t8s || other)
+    ∷ (6, badOffsets o)
+    ∷ []
+
+-- what a call reads, each as whether a value is bad: flags and marks, QPs, strengths
+pub record Reads : Type 0 where
+  pub flags : Bool
+  pub qps : Bool
+  pub strengths : Bool
+
+abbrev pub entryChecks : Reads → List (ℕ × Bool)
+entryChecks r =
+    (7, r .flags)
+    ∷ (8, r .qps)
+    ∷ (9, r .strengths)
+    ∷ []
+
+-- those that read lengths alone, and all; luma, u, v are the lengths of the planes
+abbrev pub lengthChecks : Lent → ℕ → ℕ → ℕ → Bool → Bool → List (ℕ × Bool)
+lengthChecks d luma u v outside other =
+    pictureChecks (d .size) outside luma u v
+    ++ gridChecks (d .size .w * d .size .h) (length (d .strengths)) (length (d .qps)) (length (d .t8s)) other (d .offsets)
+
+abbrev pub filterChecks : Lent → ℕ → ℕ → ℕ → Bool → Bool → Reads → List (ℕ × Bool)
+filterChecks d luma u v outside other r = lengthChecks d luma u v outside other ++ entryChecks r

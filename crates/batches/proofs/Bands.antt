@@ -1,4 +1,4 @@
--- The columns of a block from column c on, n of them, stand for n lines of eight samples of a plane: all
+-- The columns of a batch from column c on, n of them, stand for n lines of eight samples of a plane: all
 -- sixteen for luma, the first eight for U, the others for V. Assumes nothing.
 use mathlib.Core.Path.{_≡_, sym, ap, subst, _∙_}
 use Prim.Native.Nat.{ℕ, suc, _+_, _-_, _*_, _/_, _%_, _≤_, _<_}
@@ -16,7 +16,7 @@ use Rattle.laws.proofs.Loop.{upTo-add}
 use Rattle.batches.specs.Lines.{Straight, vertical, horizontal, upper, lower}
 use Rattle.batches.proofs.Parts.{Part, Apart, Lies, part-beside, part-lines}
 
--- place i of the block is in these columns
+-- place i of the batch is in these columns
 pub record Band (c n i : ℕ) : Type 0 where
   pub below : i < 128
   pub from : c ≤ i % 16
@@ -98,7 +98,7 @@ upper-columns = record { inside = λ k j h l. omega arith; column = λ k j h l. 
 pub lower-columns : Columns lower 4 2
 lower-columns = record { inside = λ k j h l. omega arith; column = λ k j h l. omega arith; row = λ k j h l. omega arith }
 
--- all sixteen lines of the block are the band's n in the plane: of the others, c before them and e after, it
+-- all sixteen lines of the batch are the band's n in the plane: of the others, c before them and e after, it
 -- sees nothing. They begin r samples after `at`
 module _ (place : ℕ → ℕ) (r m : ℕ) (cs : Columns place r m) (c n e : ℕ) (sum : c + n + e ≡ 16) (at along step to : ℕ) (begins : to ≡ at + r * step) (xs : Plane) where
   abbrev InBand : Plane → Plane → Type 0

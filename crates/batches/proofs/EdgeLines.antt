@@ -1,4 +1,4 @@
--- The lines of an edge, or of two chroma edges in each plane, are what the block makes of them. Assumes
+-- The lines of an edge, or of two chroma edges in each plane, are what the batch makes of them. Assumes
 -- nothing.
 use mathlib.Core.Path.{_≡_, ap, _∙_}
 use mathlib.Core.Bool.{true, cond}
@@ -15,9 +15,9 @@ use Rattle.laws.proofs.Bools.{or-true}
 use Rattle.laws.proofs.Loop.{upTo-same, upTo-idle}
 use Rattle.lines.specs.Depth.{Depth}
 use Rattle.lines.specs.Planes.{onLine, onShort, lumaAt, chromaAt}
-use Rattle.batches.specs.Lines.{strengthAt, lumaWith, chromaWith, longLines, shortLines, Straight, upper, lower, longAt, side, sideStrength, shortAt}
-use Rattle.batches.specs.Lanes.{none, still}
-use Rattle.batches.specs.Moves.{taken, takenBoth, given}
+use Rattle.batches.specs.Lines.{segmentStrength, lumaWith, chromaWith, longLines, shortLines, Straight, upper, lower, longAt, uOrV, uvStrength, shortAt}
+use Rattle.batches.specs.Lanes.{allZero, stillEdge}
+use Rattle.batches.specs.Moves.{taken, takenBoth, stored}
 use Rattle.batches.specs.declared.lanes.Four.{Four}
 use Rattle.batches.specs.declared.lanes.Thresholds.{Thresholds}
 use Rattle.batches.proofs.Segments.{zeros}
@@ -25,37 +25,37 @@ use Rattle.batches.proofs.Shapes.{long, short, stays}
 use Rattle.batches.proofs.Loads.{long-is, pair-u, pair-v}
 
 -- ---- where no line can change, none does
-why-still : (s : Four) (l : Thresholds) → still s l ≡ true → (n k : ℕ) → (strengthAt n s k ≡ 0) ⊎ (l .alpha ≡ 0)
-why-still s l e n k = ⊎-elim (λ z. inl (zeros s z n k)) (λ z. inr (eqb-true (l .alpha) 0 z)) (or-true (none s) (eqb (l .alpha) 0) e)
+why-still : (s : Four) (l : Thresholds) → stillEdge s l ≡ true → (n k : ℕ) → (segmentStrength n s k ≡ 0) ⊎ (l .alpha ≡ 0)
+why-still s l e n k = ⊎-elim (λ z. inl (zeros s z n k)) (λ z. inr (eqb-true (l .alpha) 0 z)) (or-true (allZero s) (eqb (l .alpha) 0) e)
 
 module _ (d : Depth) (s : Four) (l : Thresholds) (at along step : ℕ) (xs : Plane) where
-  pub long-still : still s l ≡ true → longLines d s l at along step xs ≡ xs
+  pub long-still : stillEdge s l ≡ true → longLines d s l at along step xs ≡ xs
   unfolding longLines lumaAt long
-  long-still e = upTo-idle 16 _ xs (λ k u h. stays (long d) l (at + k * along) step u (strengthAt 4 s k) (why-still s l e 4 k))
+  long-still e = upTo-idle 16 _ xs (λ k u h. stays (long d) l (at + k * along) step u (segmentStrength 4 s k) (why-still s l e 4 k))
 
-  pub short-still : still s l ≡ true → shortLines d s l at along step xs ≡ xs
+  pub short-still : stillEdge s l ≡ true → shortLines d s l at along step xs ≡ xs
   unfolding shortLines chromaAt short
-  short-still e = upTo-idle 8 _ xs (λ k u h. stays (short d) l (at + k * along) step u (strengthAt 2 s k) (why-still s l e 2 k))
+  short-still e = upTo-idle 8 _ xs (λ k u h. stays (short d) l (at + k * along) step u (segmentStrength 2 s k) (why-still s l e 2 k))
 
   -- ---- a luma edge
-  pub long-edge : Straight 16 along step → at + 15 * along + 7 * step < length xs → given 0 16 at along step (upTo 16 (longAt d s l) (taken at along step xs)) xs ≡ longLines d s l at along step xs
+  pub long-edge : Straight 16 along step → at + 15 * along + 7 * step < length xs → stored 0 16 at along step (upTo 16 (longAt d s l) (taken at along step xs)) xs ≡ longLines d s l at along step xs
   unfolding longLines lumaAt
   long-edge w h =
-      long-is at along step xs (λ k. onLine (lumaWith d l (strengthAt 4 s k))) w h
-      ∙ upTo-same 16 _ _ xs (λ k u b. ap (λ (n : ℕ). lineAt 6 (onLine (lumaWith d l (strengthAt 4 s n))) (at + k * along) step u) (zero-add k))
+      long-is at along step xs (λ k. onLine (lumaWith d l (segmentStrength 4 s k))) w h
+      ∙ upTo-same 16 _ _ xs (λ k u b. ap (λ (n : ℕ). lineAt 6 (onLine (lumaWith d l (segmentStrength 4 s n))) (at + k * along) step u) (zero-add k))
 
--- ---- two chroma edges: the first eight lines of the block are U's, the others V's
+-- ---- two chroma edges: the first eight lines of the batch are U's, the others V's
 module _ (d : Depth) (s : Four) (l m : Thresholds) (at along step : ℕ) (xs : Plane) where
-  u-lines : upTo 8 (λ k. lineAt 2 (onShort (chromaWith d (side l m (0 + k)) (sideStrength s (0 + k)))) (at + k * along) step) xs ≡ shortLines d s l at along step xs
+  u-lines : upTo 8 (λ k. lineAt 2 (onShort (chromaWith d (uOrV l m (0 + k)) (uvStrength s (0 + k)))) (at + k * along) step) xs ≡ shortLines d s l at along step xs
   unfolding shortLines chromaAt
-  u-lines = upTo-same 8 _ _ xs (λ k u h. λ i. lineAt 2 (onShort (chromaWith d (cond (lt-ltb (0 + k) 8 (omega arith) i) l m) (strengthAt 2 s (own k h i)))) (at + k * along) step u)
+  u-lines = upTo-same 8 _ _ xs (λ k u h. λ i. lineAt 2 (onShort (chromaWith d (cond (lt-ltb (0 + k) 8 (omega arith) i) l m) (segmentStrength 2 s (own k h i)))) (at + k * along) step u)
     where
       own : (k : ℕ) → k < 8 → (0 + k) % 8 ≡ k
       own k h = omega arith
 
-  v-lines : upTo 8 (λ k. lineAt 2 (onShort (chromaWith d (side l m (8 + k)) (sideStrength s (8 + k)))) (at + k * along) step) xs ≡ shortLines d s m at along step xs
+  v-lines : upTo 8 (λ k. lineAt 2 (onShort (chromaWith d (uOrV l m (8 + k)) (uvStrength s (8 + k)))) (at + k * along) step) xs ≡ shortLines d s m at along step xs
   unfolding shortLines chromaAt
-  v-lines = upTo-same 8 _ _ xs (λ k u h. λ i. lineAt 2 (onShort (chromaWith d (cond (le-ltb (8 + k) 8 (omega arith) i) l m) (strengthAt 2 s (own k h i)))) (at + k * along) step u)
+  v-lines = upTo-same 8 _ _ xs (λ k u h. λ i. lineAt 2 (onShort (chromaWith d (cond (le-ltb (8 + k) 8 (omega arith) i) l m) (segmentStrength 2 s (own k h i)))) (at + k * along) step u)
     where
       own : (k : ℕ) → k < 8 → (8 + k) % 8 ≡ k
       own k h = omega arith
@@ -66,22 +66,22 @@ module _ (d : Depth) (s r : Four) (l m n o : Thresholds) (at along step : ℕ) (
   block = upTo 16 (shortAt d lower r n o) (upTo 16 (shortAt d upper s l m) (takenBoth at along step us vs))
 
   pub edges-u : at + 7 * along + 7 * step < length us
-      → given 0 8 at along step block us ≡ shortLines d r n (at + 4 * step) along step (shortLines d s l at along step us)
+      → stored 0 8 at along step block us ≡ shortLines d r n (at + 4 * step) along step (shortLines d s l at along step us)
   unfolding chromaAt
   edges-u h =
-      pair-u at along step us vs (λ k. onShort (chromaWith d (side l m k) (sideStrength s k))) (λ k. onShort (chromaWith d (side n o k) (sideStrength r k))) w h
+      pair-u at along step us vs (λ k. onShort (chromaWith d (uOrV l m k) (uvStrength s k))) (λ k. onShort (chromaWith d (uOrV n o k) (uvStrength r k))) w h
       ∙ u-lines d r n o (at + 4 * step) along step _
       ∙ ap (shortLines d r n (at + 4 * step) along step) (u-lines d s l m at along step us)
 
   pub edges-v : at + 7 * along + 7 * step < length vs
-      → given 8 8 at along step block vs ≡ shortLines d r o (at + 4 * step) along step (shortLines d s m at along step vs)
+      → stored 8 8 at along step block vs ≡ shortLines d r o (at + 4 * step) along step (shortLines d s m at along step vs)
   unfolding chromaAt
   edges-v h =
-      pair-v at along step us vs (λ k. onShort (chromaWith d (side l m k) (sideStrength s k))) (λ k. onShort (chromaWith d (side n o k) (sideStrength r k))) w h
+      pair-v at along step us vs (λ k. onShort (chromaWith d (uOrV l m k) (uvStrength s k))) (λ k. onShort (chromaWith d (uOrV n o k) (uvStrength r k))) w h
       ∙ v-lines d r n o (at + 4 * step) along step _
       ∙ ap (shortLines d r o (at + 4 * step) along step) (v-lines d s l m at along step vs)
 
 -- s and l are the first edge's, r and m the second's
-pub pair-still : (d : Depth) (s r : Four) (l m : Thresholds) (at along step : ℕ) (xs : Plane) → still s l ≡ true → still r m ≡ true
+pub pair-still : (d : Depth) (s r : Four) (l m : Thresholds) (at along step : ℕ) (xs : Plane) → stillEdge s l ≡ true → stillEdge r m ≡ true
     → shortLines d r m (at + 4 * step) along step (shortLines d s l at along step xs) ≡ xs
 pair-still d s r l m at along step xs e f = short-still d r m (at + 4 * step) along step _ f ∙ short-still d s l at along step xs e

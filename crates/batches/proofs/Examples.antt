@@ -11,21 +11,21 @@ use Rattle.lines.specs.Filter.{deltaOf}
 use Rattle.lines.specs.Chroma.{chromaNormal, normalShort, chromaLine}
 use Rattle.lines.specs.Planes.{chromaAt}
 use Rattle.lines.specs.Inner.{tcBy}
-use Rattle.batches.specs.Lines.{strengthAt, shortLines, side, sideStrength}
-use Rattle.batches.specs.Lanes.{weakRow, spreadOf, fourEach, twoEach, still}
-use Rattle.batches.specs.Moves.{copied, movedRows}
+use Rattle.batches.specs.Lines.{segmentStrength, shortLines, uOrV, uvStrength}
+use Rattle.batches.specs.Lanes.{weakRow, spreadOf, fourEach, twoEach, stillEdge}
+use Rattle.batches.specs.Moves.{copiedRow, movedRows}
 use Rattle.batches.specs.declared.lanes.Four.{Four}
 use Rattle.batches.specs.declared.lanes.Thresholds.{Thresholds}
 
 abbrev pub mixed : Four
 mixed = record { a = 0; b = 2; c = 4; d = 9 }
 
--- luma line 5 is of the second segment, chroma line 5 of the third, and line 13 of a chroma block is V's line
+-- luma line 5 is of the second segment, chroma line 5 of the third, and line 13 of a chroma batch is V's line
 -- 5
-fifth : (strengthAt 4 mixed 5 ≡ 2) × (strengthAt 2 mixed 5 ≡ 4) × (sideStrength mixed 13 ≡ 4)
+fifth : (segmentStrength 4 mixed 5 ≡ 2) × (segmentStrength 2 mixed 5 ≡ 4) × (uvStrength mixed 13 ≡ 4)
 fifth = (refl, refl, refl)
 
-whose : (u v : ℕ) → (side u v 7 ≡ u) × (side u v 8 ≡ v)
+whose : (u v : ℕ) → (uOrV u v 7 ≡ u) × (uOrV u v 8 ≡ v)
 whose u v = (refl, refl)
 
 -- the thresholds of QP 30
@@ -43,12 +43,12 @@ abbrev pub nowhere : Four
 nowhere = record { a = 0; b = 0; c = 0; d = 0 }
 
 -- lines may change where a strength is not 0 and alpha is not
-when-still : (still mixed thirty ≡ false) × (still nowhere thirty ≡ true) × (still mixed shut ≡ true)
+when-still : (stillEdge mixed thirty ≡ false) × (stillEdge nowhere thirty ≡ true) × (stillEdge mixed shut ≡ true)
 when-still = (refl, refl, refl)
 
 -- two rows of two samples, two apart, to places three apart
 two-rows : movedRows 2 2 1 3 0 2 (5 ∷ 6 ∷ 7 ∷ 8 ∷ []) (1 ∷ 1 ∷ 1 ∷ 1 ∷ 1 ∷ 1 ∷ 1 ∷ []) ≡ 1 ∷ 5 ∷ 6 ∷ 1 ∷ 7 ∷ 8 ∷ 1 ∷ []
-unfolding movedRows copied upTo
+unfolding movedRows copiedRow upTo
 two-rows = refl
 
 -- ---- two chroma edges of one row, 60 60 | 70 70 and 70 70 | 80 80, of strengths 1 and 2 at QP 30 (P8 of the

@@ -1,5 +1,5 @@
--- What is loaded of a plane stands for the edge's places in its columns of the block, and so does what is
--- stored; hence lines filtered in their block are the edge's lines filtered. Assumes nothing.
+-- What is loaded of a plane stands for the edge's places in its columns of the batch, and so does what is
+-- stored; hence lines filtered in their batch are the edge's lines filtered. Assumes nothing.
 use mathlib.Core.Path.{_≡_, refl, sym, ap, _∙_}
 use mathlib.Core.Bool.{false}
 use mathlib.Core.List.{List}
@@ -12,13 +12,13 @@ use lib.ListN.{length, getD}
 use Rattle.laws.specs.Loop.{upTo}
 use Rattle.laws.specs.Places.{Plane, lineAt}
 use Rattle.batches.specs.Lines.{Straight, vertical, horizontal, upper, lower}
-use Rattle.batches.specs.Moves.{movedRows, blank, zipped, rowsIn, colsIn, taken, takenBoth, given}
+use Rattle.batches.specs.Moves.{movedRows, emptyBatch, zipped, rowsIn, colsIn, taken, takenBoth, stored}
 use Rattle.batches.proofs.MovedRows.{rows-length, rows-off, rows-at}
 use Rattle.batches.proofs.Zips.{back, forth, zip-length, zip-three, zip-four}
 use Rattle.batches.proofs.Parts.{Part, part-one}
 use Rattle.batches.proofs.Bands.{Band, spot, spot-is, band-apart, long-columns, upper-columns, lower-columns, band-lines}
 
--- ---- a block whose columns hold a plane's rows, or whose rows before the zips do
+-- ---- a batch whose columns hold a plane's rows, or whose rows before the zips do
 module _ (c n : ℕ) (t : Plane) (at stride : ℕ) (xs : Plane) where
   abbrev RowsHeld : Type 0
   RowsHeld = (r k : ℕ) → r < 8 → k < n → getD t (c + r * 16 + k) 0 ≡ getD xs (at + r * stride + k) 0
@@ -44,7 +44,7 @@ module _ (c n : ℕ) (t : Plane) (at stride : ℕ) (xs : Plane) where
           let g : at + (i % 16 - c) * stride + i / 16 ≡ spot c at stride 1 i = omega arith in
           sym (zip-four t i b ∙ ap (λ (p : ℕ). getD t p 0) (sym e) ∙ f (i % 16 - c) (i / 16) (omega arith) (omega arith) ∙ ap (λ (p : ℕ). getD xs p 0) g)
 
--- ---- what is loaded holds them, whatever the block t held before
+-- ---- what is loaded holds them, whatever the batch t held before
 module _ (c n at stride : ℕ) (xs t : Plane) (l : length t ≡ 128) (b : c + n ≤ 16) where
   rows-held : RowsHeld c n (rowsIn c n at stride xs t) at stride xs
   rows-held = rows-at n c 16 at stride xs t (omega arith) 8 (λ r h. rw l (omega arith))
@@ -56,31 +56,31 @@ module _ (c n at stride : ℕ) (xs t : Plane) (l : length t ≡ 128) (b : c + n 
 module _ (at along step : ℕ) where
   taken-part : (xs : Plane) → Straight 16 along step → Part (Band 0 16) (spot 0 at along step) xs (taken at along step xs) xs
   unfolding taken
-  taken-part xs (vertical e w) = rw e (cols-part 0 16 _ at along xs (cols-held 0 16 at along xs blank refl (omega arith)))
+  taken-part xs (vertical e w) = rw e (cols-part 0 16 _ at along xs (cols-held 0 16 at along xs emptyBatch refl (omega arith)))
   taken-part xs (horizontal e w) =
       let z : eqb step 1 ≡ false = ne-eqb step 1 (λ q. omega arith) in
-      rw (z, e) (rows-part 0 16 _ at step xs (rows-length 16 0 16 at step xs blank 8) (rows-held 0 16 at step xs blank refl (omega arith)))
+      rw (z, e) (rows-part 0 16 _ at step xs (rows-length 16 0 16 at step xs emptyBatch 8) (rows-held 0 16 at step xs emptyBatch refl (omega arith)))
 
   module _ (us vs : Plane) where
     taken-u : Straight 8 along step → Part (Band 0 8) (spot 0 at along step) us (takenBoth at along step us vs) us
     unfolding takenBoth
     taken-u (vertical e w) =
         rw e (cols-part 0 8 _ at along us
-        (λ r k h l. rows-off 8 64 8 at along vs (colsIn 0 8 at along us blank) 8 _ (λ r′ k′ h′ l′ q. omega arith) ∙ cols-held 0 8 at along us blank refl (omega arith) r k h l))
+        (λ r k h l. rows-off 8 64 8 at along vs (colsIn 0 8 at along us emptyBatch) 8 _ (λ r′ k′ h′ l′ q. omega arith) ∙ cols-held 0 8 at along us emptyBatch refl (omega arith) r k h l))
     taken-u (horizontal e w) =
         let z : eqb step 1 ≡ false = ne-eqb step 1 (λ q. omega arith) in
-        let v : length (rowsIn 8 8 at step vs blank) ≡ 128 = rows-length 8 8 16 at step vs blank 8 in
-        rw (z, e) (rows-part 0 8 _ at step us (rows-length 8 0 16 at step us (rowsIn 8 8 at step vs blank) 8 ∙ v)
-        (rows-held 0 8 at step us (rowsIn 8 8 at step vs blank) v (omega arith)))
+        let v : length (rowsIn 8 8 at step vs emptyBatch) ≡ 128 = rows-length 8 8 16 at step vs emptyBatch 8 in
+        rw (z, e) (rows-part 0 8 _ at step us (rows-length 8 0 16 at step us (rowsIn 8 8 at step vs emptyBatch) 8 ∙ v)
+        (rows-held 0 8 at step us (rowsIn 8 8 at step vs emptyBatch) v (omega arith)))
 
     taken-v : Straight 8 along step → Part (Band 8 8) (spot 8 at along step) vs (takenBoth at along step us vs) vs
     unfolding takenBoth
     taken-v (vertical e w) =
-        rw e (cols-part 8 8 _ at along vs (cols-held 8 8 at along vs (colsIn 0 8 at along us blank) (rows-length 8 0 8 at along us blank 8) (omega arith)))
+        rw e (cols-part 8 8 _ at along vs (cols-held 8 8 at along vs (colsIn 0 8 at along us emptyBatch) (rows-length 8 0 8 at along us emptyBatch 8) (omega arith)))
     taken-v (horizontal e w) =
         let z : eqb step 1 ≡ false = ne-eqb step 1 (λ q. omega arith) in
-        rw (z, e) (rows-part 8 8 _ at step vs (rows-length 8 0 16 at step us (rowsIn 8 8 at step vs blank) 8 ∙ rows-length 8 8 16 at step vs blank 8)
-        (λ r k h l. rows-off 8 0 16 at step us (rowsIn 8 8 at step vs blank) 8 _ (λ r′ k′ h′ l′ q. omega arith) ∙ rows-held 8 8 at step vs blank refl (omega arith) r k h l))
+        rw (z, e) (rows-part 8 8 _ at step vs (rows-length 8 0 16 at step us (rowsIn 8 8 at step vs emptyBatch) 8 ∙ rows-length 8 8 16 at step vs emptyBatch 8)
+        (λ r k h l. rows-off 8 0 16 at step us (rowsIn 8 8 at step vs emptyBatch) 8 _ (λ r′ k′ h′ l′ q. omega arith) ∙ rows-held 8 8 at step vs emptyBatch refl (omega arith) r k h l))
 
 -- ---- what is stored
 module _ (c n at : ℕ) (t xs : Plane) (l : length t ≡ 128) (b : c + n ≤ 16) where
@@ -88,8 +88,8 @@ module _ (c n at : ℕ) (t xs : Plane) (l : length t ≡ 128) (b : c + n ≤ 16)
   in-band : (r k : ℕ) → r < 8 → k < n → Band c n (c + r * 16 + k)
   in-band r k h m = record { below = omega arith; from = omega arith; to = omega arith }
 
-  rows-given : (step : ℕ) → n ≤ step → at + (n - 1) * 1 + 7 * step < length xs → Part (Band c n) (spot c at 1 step) xs t (movedRows 8 n at step c 16 t xs)
-  rows-given step w room = record {
+  rows-stored : (step : ℕ) → n ≤ step → at + (n - 1) * 1 + 7 * step < length xs → Part (Band c n) (spot c at 1 step) xs t (movedRows 8 n at step c 16 t xs)
+  rows-stored step w room = record {
     size = l;
     long = rows-length n at step c 16 t xs 8;
     at = λ i d. there i (d .below) (d .from) (d .to);
@@ -110,9 +110,9 @@ module _ (c n at : ℕ) (t xs : Plane) (l : length t ≡ 128) (b : c + n ≤ 16)
           ∙ rows-at n at step c 16 t xs w 8 fits (i / 16) (i % 16 - c) (omega arith) (omega arith)
           ∙ ap (λ (p : ℕ). getD t p 0) q
 
-  cols-given : (along : ℕ) → 8 ≤ along → at + (n - 1) * along + 7 * 1 < length xs
+  cols-stored : (along : ℕ) → 8 ≤ along → at + (n - 1) * along + 7 * 1 < length xs
       → Part (Band c n) (spot c at along 1) xs t (movedRows n 8 at along (8 * c) 8 (zipped (zipped (zipped t))) xs)
-  cols-given along w room = record {
+  cols-stored along w room = record {
     size = l;
     long = rows-length 8 at along (8 * c) 8 u xs n;
     at = λ i d. there i (d .below) (d .from) (d .to);
@@ -137,45 +137,45 @@ module _ (c n at : ℕ) (t xs : Plane) (l : length t ≡ 128) (b : c + n ≤ 16)
           ∙ zip-three t (8 * c + (i % 16 - c) * 8 + i / 16) (omega arith)
           ∙ ap (λ (p : ℕ). getD t p 0) q
 
-  given-part : 2 ≤ n → (along step : ℕ) → Straight n along step → at + (n - 1) * along + 7 * step < length xs
-      → Part (Band c n) (spot c at along step) xs t (given c n at along step t xs)
-  unfolding given
-  given-part two along step (vertical e w) room = rw e (cols-given along w (rw e at room))
-  given-part two along step (horizontal e w) room =
+  stored-part : 2 ≤ n → (along step : ℕ) → Straight n along step → at + (n - 1) * along + 7 * step < length xs
+      → Part (Band c n) (spot c at along step) xs t (stored c n at along step t xs)
+  unfolding stored
+  stored-part two along step (vertical e w) room = rw e (cols-stored along w (rw e at room))
+  stored-part two along step (horizontal e w) room =
       let z : eqb step 1 ≡ false = ne-eqb step 1 (λ q. omega arith) in
-      rw (z, e) (rows-given step w (rw e at room))
+      rw (z, e) (rows-stored step w (rw e at room))
 
 -- ---- load, filter, store
 module _ (at along step : ℕ) where
   -- the sixteen lines of a luma edge
   pub long-is : (xs : Plane) (f : ℕ → List ℕ → List ℕ) → Straight 16 along step → at + 15 * along + 7 * step < length xs
-      → given 0 16 at along step (upTo 16 (λ k. lineAt 6 (f k) (upper k) 16) (taken at along step xs)) xs ≡ upTo 16 (λ k. lineAt 6 (f (0 + k)) (at + k * along) step) xs
+      → stored 0 16 at along step (upTo 16 (λ k. lineAt 6 (f k) (upper k) 16) (taken at along step xs)) xs ≡ upTo 16 (λ k. lineAt 6 (f (0 + k)) (at + k * along) step) xs
   long-is xs f s h =
       let sp = band-apart 0 16 at along step (length xs) s h in
       let p = band-lines upper 0 6 long-columns 0 16 0 refl at along step at (omega arith) xs f sp (taken-part at along step xs s) in
-      part-one (Band 0 16) (spot 0 at along step) xs sp (given-part 0 16 at _ xs (p .size) (omega arith) (omega arith) along step s h) p
+      part-one (Band 0 16) (spot 0 at along step) xs sp (stored-part 0 16 at _ xs (p .size) (omega arith) (omega arith) along step s h) p
 
-  -- the eight lines of each of two chroma edges, in a plane whose columns of the block t begin at c
+  -- the eight lines of each of two chroma edges, in a plane whose columns of the batch t begin at c
   pair-is : (c e : ℕ) → c + 8 + e ≡ 16 → (t xs : Plane) (f g : ℕ → List ℕ → List ℕ) → Straight 8 along step → at + 7 * along + 7 * step < length xs
       → Part (Band c 8) (spot c at along step) xs t xs
-      → given c 8 at along step (upTo 16 (λ k. lineAt 2 (g k) (lower k) 16) (upTo 16 (λ k. lineAt 2 (f k) (upper k) 16) t)) xs
+      → stored c 8 at along step (upTo 16 (λ k. lineAt 2 (g k) (lower k) 16) (upTo 16 (λ k. lineAt 2 (f k) (upper k) 16) t)) xs
       ≡ upTo 8 (λ k. lineAt 2 (g (c + k)) (at + 4 * step + k * along) step) (upTo 8 (λ k. lineAt 2 (f (c + k)) (at + k * along) step) xs)
   pair-is c e sum t xs f g s h part =
       let sp = band-apart c 8 at along step (length xs) s h in
       let p = band-lines upper 0 2 upper-columns c 8 e sum at along step at (omega arith) xs f sp part in
       let q = band-lines lower 4 2 lower-columns c 8 e sum at along step (at + 4 * step) refl xs g sp p in
-      part-one (Band c 8) (spot c at along step) xs sp (given-part c 8 at _ xs (q .size) (omega arith) (omega arith) along step s h) q
+      part-one (Band c 8) (spot c at along step) xs sp (stored-part c 8 at _ xs (q .size) (omega arith) (omega arith) along step s h) q
 
   module _ (us vs : Plane) (f g : ℕ → List ℕ → List ℕ) (s : Straight 8 along step) where
     abbrev filtered : Plane
     filtered = upTo 16 (λ k. lineAt 2 (g k) (lower k) 16) (upTo 16 (λ k. lineAt 2 (f k) (upper k) 16) (takenBoth at along step us vs))
 
     pub pair-u : at + 7 * along + 7 * step < length us
-        → given 0 8 at along step filtered us
+        → stored 0 8 at along step filtered us
         ≡ upTo 8 (λ k. lineAt 2 (g (0 + k)) (at + 4 * step + k * along) step) (upTo 8 (λ k. lineAt 2 (f (0 + k)) (at + k * along) step) us)
     pair-u h = pair-is 0 8 refl _ us f g s h (taken-u at along step us vs s)
 
     pub pair-v : at + 7 * along + 7 * step < length vs
-        → given 8 8 at along step filtered vs
+        → stored 8 8 at along step filtered vs
         ≡ upTo 8 (λ k. lineAt 2 (g (8 + k)) (at + 4 * step + k * along) step) (upTo 8 (λ k. lineAt 2 (f (8 + k)) (at + k * along) step) vs)
     pair-v h = pair-is 8 0 refl _ vs f g s h (taken-v at along step us vs s)

@@ -1,5 +1,5 @@
--- A block of which the places in D stand for places of a plane, place i for φ i, so that planes may share a
--- block: to filter lines of the block is to filter lines of the plane. Assumes nothing.
+-- A batch of which the places in D stand for places of a plane, place i for φ i, so that planes may share a
+-- batch: to filter lines of the batch is to filter lines of the plane. Assumes nothing.
 use mathlib.Core.Path.{_≡_, refl, sym, ap, subst, _∙_}
 use mathlib.Core.Logic.{_≢_, _⊎_, inl, inr, ⊎-elim}
 use mathlib.Core.List.{List, [], _∷_}
@@ -13,30 +13,30 @@ use Rattle.laws.specs.Local.{Local}
 use Rattle.laws.specs.Loop.{upTo}
 use Rattle.laws.specs.Places.{Plane, places, gets, puts, lineAt}
 use Rattle.laws.proofs.Loops.{upTo-both}
-use Rattle.batches.proofs.Moved.{last-or-before}
+use Rattle.batches.proofs.MovedPlaces.{last-or-before}
 
--- ys is xs, but for the places φ i, where it holds the block's b
+-- ys is xs, but for the places φ i, where it holds the batch's b
 pub record Part (D : ℕ → Type 0) (φ : ℕ → ℕ) (xs b ys : Plane) : Type 0 where
   pub size : length b ≡ 128
   pub long : length ys ≡ length xs
   pub at : (i : ℕ) → D i → getD ys (φ i) 0 ≡ getD b i 0
   pub off : (j : ℕ) → ((i : ℕ) → D i → j ≢ φ i) → getD ys j 0 ≡ getD xs j 0
 
--- the places of D are the block's, and stand for places of the plane that are apart
+-- the places of D are the batch's, and stand for places of the plane that are apart
 pub record Apart (D : ℕ → Type 0) (φ : ℕ → ℕ) (n : ℕ) : Type 0 where
   pub dec : (i : ℕ) → Dec (D i)
   pub below : (i : ℕ) → D i → i < 128
   pub apart : (i j : ℕ) → D i → D j → i ≢ j → φ i ≢ φ j
   pub room : (i : ℕ) → D i → φ i < n
 
--- the places is of the block stand for the places ps of the plane, one by one
+-- the places is of the batch stand for the places ps of the plane, one by one
 abbrev Meets : (ℕ → Type 0) → (ℕ → ℕ) → List ℕ → List ℕ → Type 0
 Meets D φ [] [] = Unit {0}
 Meets D φ [] (p ∷ ps) = ⊥
 Meets D φ (i ∷ is) [] = ⊥
 Meets D φ (i ∷ is) (p ∷ ps) = (D i × (p ≡ φ i)) × Meets D φ is ps
 
--- sample j of a line, in the block and in the plane
+-- sample j of a line, in the batch and in the plane
 abbrev pub Lies : (ℕ → Type 0) → (ℕ → ℕ) → ℕ → ℕ → ℕ → ℕ → Type 0
 Lies D φ k p step j = D (k + j * 16) × (p + j * step ≡ φ (k + j * 16))
 
@@ -77,7 +77,7 @@ module _ (D : ℕ → Type 0) (φ : ℕ → ℕ) (xs : Plane) (sp : Apart D φ (
       by-place j l (yes e) = rw e (getD-set-same ys (φ i) v 0 (rw (s .long) (sp .room i h)) ∙ sym (getD-set-same b i v 0 (rw (s .size) (sp .below i h))))
       by-place j l (no d) = getD-set-other ys (φ i) (φ j) v 0 (sp .apart j i l h d) ∙ s .at j l ∙ sym (getD-set-other b i j v 0 d)
 
-  -- a block stands for one plane only
+  -- a batch stands for one plane only
   pub part-one : {b ys zs : Plane} → Part D φ xs b ys → Part D φ xs b zs → ys ≡ zs
   part-one {b} {ys} {zs} s t =
       ext-getD 0 ys zs (s .long ∙ sym (t .long)) (λ j l. ⊎-elim (λ w. hit j (w .0) (w .1) (w .2)) (λ f. beside j (λ i d. f i (sp .below i d) d)) (hit-or-not D φ (sp .dec) 128 j))
@@ -88,7 +88,7 @@ module _ (D : ℕ → Type 0) (φ : ℕ → ℕ) (xs : Plane) (sp : Apart D φ (
       beside : (j : ℕ) → ((i : ℕ) → D i → j ≢ φ i) → getD ys j 0 ≡ getD zs j 0
       beside j g = s .off j g ∙ sym (t .off j g)
 
-  -- what is done to the block outside of D, as to the lines of the other plane
+  -- what is done to the batch outside of D, as to the lines of the other plane
   pub part-beside : {b ys : Plane} (F : ℕ → Type 0) (g : Plane → Plane) → Local F g → ((i : ℕ) → D i → F i → ⊥) → Part D φ xs b ys → Part D φ xs (g b) ys
   part-beside {b} {ys} F g l h s = record {
     size = l .len b ∙ s .size;
@@ -125,7 +125,7 @@ module _ (D : ℕ → Type 0) (φ : ℕ → ℕ) (xs : Plane) (sp : Apart D φ (
       (sym (part-gets (places k 16 (suc (suc n))) (places p step (suc (suc n))) (meets D φ step (suc (suc n)) k p h) s))
       (part-puts (places (k + 16) 16 n) (places (p + step) step n) _ (meets D φ step n (k + 16) (p + step) (λ j l. lies-next D φ k p step j (h (suc j) (omega arith)))) s)
 
-  -- m lines of the block and of the plane, side by side
+  -- m lines of the batch and of the plane, side by side
   pub part-lines : {b ys : Plane} (m n : ℕ) (f : ℕ → List ℕ → List ℕ) (col place : ℕ → ℕ) (step : ℕ)
       → ((k j : ℕ) → k < m → j < suc (suc n) → Lies D φ (col k) (place k) step j)
       → Part D φ xs b ys → Part D φ xs (upTo m (λ k. lineAt n (f k) (col k) 16) b) (upTo m (λ k. lineAt n (f k) (place k) step) ys)

@@ -10,12 +10,13 @@ use Rattle.laws.specs.Loop.{upTo}
 use Rattle.laws.specs.Places.{Plane}
 use Rattle.lines.specs.Depth.{eight}
 use Rattle.lines.specs.Filter.{deltaOf}
-use Rattle.lines.specs.Luma.{Line, line, nudgeOf, innerOf, lumaNormal, strongSide, lumaStrong, normalLine, strongLine, lumaLine}
+use Rattle.lines.specs.Luma.{line, nudgeOf, innerOf, lumaNormal, strongSide, lumaStrong, normalLine, strongLine, lumaLine}
+use Rattle.lines.specs.declared.luma.Line.{Line}
 use Rattle.lines.specs.Chroma.{chromaNormal, normalShort, chromaLine}
 use Rattle.lines.specs.Planes.{chromaAt}
 use Rattle.lines.specs.Inner.{tcBy}
 use Rattle.lines.specs.declared.luma.Six.{Six}
-use Rattle.batches.specs.Lines.{strengthAt, shortLines, upper, shortAt}
+use Rattle.batches.specs.Lines.{segmentStrength, shortLines, upper, shortAt}
 use Rattle.batches.specs.declared.lanes.Four.{Four}
 use Rattle.batches.proofs.Examples.{mixed, thirty, shut, steps, one, two}
 
@@ -36,7 +37,7 @@ pub near-edge : shortLines eight two thirty 3 8 1 (shortLines eight one thirty 0
 unfolding shortLines upTo chromaAt chromaLine normalShort chromaNormal deltaOf clip3 clip1 tcBy
 near-edge e = subst (λ (n : ℕ). T (eqb n 80)) (ap (λ (xs : Plane). getD xs 6 0) e) tt
 
--- V's lines by U's thresholds: in a block of two rows of 60 above two of 70, where V's alpha is 0, p0 of its
+-- V's lines by U's thresholds: in a batch of two rows of 60 above two of 70, where V's alpha is 0, p0 of its
 -- first line becomes 62, rightly 60
 abbrev rows : Plane
 rows = replicate 32 60 ++ replicate 32 70
@@ -47,5 +48,5 @@ v-by-u e = subst (λ (n : ℕ). T (eqb n 62)) (ap (λ (xs : Plane). getD xs 24 0
 
 -- four chroma lines to a segment, as in luma: line 5 would have the strength of the second segment, rightly
 -- that of the third
-pub four-to-a-segment : ((s : Four) (k : ℕ) → strengthAt 4 s k ≡ strengthAt 2 s k) → ⊥
+pub four-to-a-segment : ((s : Four) (k : ℕ) → segmentStrength 4 s k ≡ segmentStrength 2 s k) → ⊥
 four-to-a-segment e = subst (λ (n : ℕ). T (eqb n 2)) (e mixed 5) tt

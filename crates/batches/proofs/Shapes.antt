@@ -16,9 +16,9 @@ use Rattle.lines.specs.Luma.{kept, normalLine, strongLine, lumaLine}
 use Rattle.lines.specs.Chroma.{same, normalShort, strongShort, chromaLine}
 use Rattle.lines.specs.Planes.{toLine, fromSix, onLine, toShort, fromTwo, onShort, lumaAt, chromaAt}
 use Rattle.lines.specs.Inner.{tcBy}
-use Rattle.lines.proofs.OnPlane.{lumaAt-kept, chromaAt-kept}
+use Rattle.lines.proofs.AnyLine.{lumaAt-kept, chromaAt-kept}
 use Rattle.lines.proofs.Strengths.{luma-none, luma-normal, luma-strong, luma-shut, chroma-none, chroma-normal, chroma-strong, chroma-shut}
-use Rattle.batches.specs.Lanes.{kindOf, ofKind, weakRow, tcRow, strongRow, isWeak, isStrong}
+use Rattle.batches.specs.Lanes.{slotOf, atSlot, weakRow, tcRow, strongRow, isWeak, isStrong}
 use Rattle.batches.specs.declared.lanes.Thresholds.{Thresholds}
 
 -- a line of n + 2 samples: kept, filtered at strengths 1 to 3 by alpha, beta and tC0, at strength 4 by alpha
@@ -66,8 +66,8 @@ short d = record {
 }
 
 -- ---- strengths of 4 and above are one kind
-kind-four : (s : ℕ) → 4 ≤ s → kindOf s ≡ 4
-kind-four s b = simp (le-ltb s 4 b)
+slot-four : (s : ℕ) → 4 ≤ s → slotOf s ≡ 4
+slot-four s b = simp (le-ltb s 4 b)
 
 pub not-weak : (s : ℕ) → 4 ≤ s → isWeak s ≡ false
 not-weak s b = and-false (ltb 0 s) (le-ltb s 4 b)
@@ -97,7 +97,7 @@ module _ (h : Shape) (l : Thresholds) where
     strong-off beta = left (h .strong 0 beta) (λ vs. sym (h .at-strong 4 0 beta 0 (omega arith) vs) ∙ h .line-off 4 0 beta 0 refl vs)
 
     -- what the lanes of a pass make of it, by its strength
-    pub weak-lane : (bs : ℕ) → lineAt (h .n) (h .normal (ofKind (weakRow l) bs) (l .beta) (ofKind (tcRow l) bs)) at step xs
+    pub weak-lane : (bs : ℕ) → lineAt (h .n) (h .normal (atSlot (weakRow l) bs) (l .beta) (atSlot (tcRow l) bs)) at step xs
         ≡ cond (isWeak bs) (lineAt (h .n) (withOf bs) at step xs) xs
     unfolding tcBy
     weak-lane zero = normal-off (l .beta) 0
@@ -106,17 +106,17 @@ module _ (h : Shape) (l : Thresholds) where
     weak-lane (suc (suc (suc zero))) = sym (lines-same _ _ (h .at-normal 3 _ _ _ (λ e. omega arith) (omega arith)))
     weak-lane (suc (suc (suc (suc s)))) =
         let four : 4 ≤ suc (suc (suc (suc s))) = omega arith in
-        ap (λ (k : ℕ). lineAt (h .n) (h .normal (getD (weakRow l) k 0) (l .beta) (getD (tcRow l) k 0)) at step xs) (kind-four _ four)
+        ap (λ (k : ℕ). lineAt (h .n) (h .normal (getD (weakRow l) k 0) (l .beta) (getD (tcRow l) k 0)) at step xs) (slot-four _ four)
         ∙ normal-off (l .beta) 0
         ∙ sym (ap (λ (b : Bool). cond b (lineAt (h .n) (withOf (suc (suc (suc (suc s))))) at step xs) xs) (not-weak _ four))
 
-    pub strong-lane : (bs : ℕ) → lineAt (h .n) (h .strong (ofKind (strongRow l) bs) (l .beta)) at step xs ≡ cond (isStrong bs) (lineAt (h .n) (withOf bs) at step xs) xs
+    pub strong-lane : (bs : ℕ) → lineAt (h .n) (h .strong (atSlot (strongRow l) bs) (l .beta)) at step xs ≡ cond (isStrong bs) (lineAt (h .n) (withOf bs) at step xs) xs
     strong-lane zero = strong-off (l .beta)
     strong-lane (suc zero) = strong-off (l .beta)
     strong-lane (suc (suc zero)) = strong-off (l .beta)
     strong-lane (suc (suc (suc zero))) = strong-off (l .beta)
     strong-lane (suc (suc (suc (suc s)))) =
         let four : 4 ≤ suc (suc (suc (suc s))) = omega arith in
-        ap (λ (k : ℕ). lineAt (h .n) (h .strong (getD (strongRow l) k 0) (l .beta)) at step xs) (kind-four _ four)
+        ap (λ (k : ℕ). lineAt (h .n) (h .strong (getD (strongRow l) k 0) (l .beta)) at step xs) (slot-four _ four)
         ∙ sym (lines-same _ _ (h .at-strong (suc (suc (suc (suc s)))) _ _ _ four))
         ∙ sym (ap (λ (b : Bool). cond b (lineAt (h .n) (withOf (suc (suc (suc (suc s))))) at step xs) xs) (lt-ltb 3 _ four))

@@ -1,4 +1,4 @@
--- Zips turn a block: place i of a zipped block was place `turn i`, and seven zips bring each sample back.
+-- Zips turn a batch: place i of a zipped batch was place `turn i`, and seven zips bring each sample back.
 -- Assumes nothing.
 use mathlib.Core.Path.{_≡_, refl, ap, _∙_}
 use Prim.Native.Nat.{ℕ, _+_, _*_, _/_, _%_, _<_}
@@ -11,8 +11,8 @@ use Rattle.laws.specs.Places.{Plane}
 use Rattle.laws.specs.Some.{every}
 use Rattle.laws.proofs.Loop.{upTo-same, upTo-flat}
 use Rattle.laws.proofs.Some.{every-at}
-use Rattle.batches.specs.Moves.{blank, zips, zipped}
-use Rattle.batches.proofs.Moved.{moved, moved-length, moved-at, Spread}
+use Rattle.batches.specs.Moves.{emptyBatch, zips, zipped}
+use Rattle.batches.proofs.MovedPlaces.{moved, moved-length, moved-at, Spread}
 
 abbrev turn : ℕ → ℕ
 turn i = i / 2 + 64 * (i % 2)
@@ -38,30 +38,30 @@ turn-four i h = eqb-true _ _ (every-at 128 i (λ j. eqb (turn (turn (turn (turn 
 turn-below : (i : ℕ) → i < 128 → turn i < 128
 turn-below i h = omega arith
 
--- ---- blocks
+-- ---- batches
 all-spread : Spread 128 (λ i. i) 128
 all-spread = record { apart = λ i j h k d. d; room = λ i h. h }
 
-zip-moved : (a : Plane) → zipped a ≡ moved 128 (λ i. i) turn a blank
+zip-moved : (a : Plane) → zipped a ≡ moved 128 (λ i. i) turn a emptyBatch
 unfolding zipped moved upTo
 zip-moved a =
-    upTo-same 64 (zips a) (λ k. upTo 2 (λ j. sample (k * 2 + j))) blank
+    upTo-same 64 (zips a) (λ k. upTo 2 (λ j. sample (k * 2 + j))) emptyBatch
     (λ k u h.
     let e0 : 2 * k ≡ k * 2 + 0 = omega arith in
     let t0 : k ≡ turn (k * 2 + 0) = omega arith in
     let e1 : 2 * k + 1 ≡ k * 2 + 1 = omega arith in
     let t1 : 64 + k ≡ turn (k * 2 + 1) = omega arith in
     λ j. set (set u (e0 j) (getD a (t0 j) 0)) (e1 j) (getD a (t1 j) 0))
-    ∙ upTo-flat 64 2 sample blank
+    ∙ upTo-flat 64 2 sample emptyBatch
   where
     sample : ℕ → Plane → Plane
     sample i d = set d i (getD a (turn i) 0)
 
 pub zip-length : (a : Plane) → length (zipped a) ≡ 128
-zip-length a = rw (zip-moved a) (moved-length (λ i. i) turn a blank 128)
+zip-length a = rw (zip-moved a) (moved-length (λ i. i) turn a emptyBatch 128)
 
 zip-at : (a : Plane) (i : ℕ) → i < 128 → getD (zipped a) i 0 ≡ getD a (turn i) 0
-zip-at a i h = rw (zip-moved a) (moved-at (λ i. i) turn a blank 128 all-spread i h)
+zip-at a i h = rw (zip-moved a) (moved-at (λ i. i) turn a emptyBatch 128 all-spread i h)
 
 pub zip-three : (a : Plane) (i : ℕ) → i < 128 → getD (zipped (zipped (zipped a))) i 0 ≡ getD a (back i) 0
 zip-three a i h =

@@ -1,4 +1,4 @@
--- Apart: no promise to a caller of the public calls rests on it. The lanes of a block: what each of its
+-- Apart: no promise to a caller of the public calls rests on it. The lanes of a batch: what each of its
 -- sixteen lines is lent in a pass.
 use Prim.Native.Nat.{ℕ}
 use mathlib.Core.Bool.{Bool, cond, _&&_, _||_}
@@ -10,8 +10,8 @@ use Rattle.batches.specs.declared.lanes.Thresholds.{Thresholds}
 
 -- strengths are of five kinds, since 4 and above are one. A row has a value for each kind: alpha and tC0 in
 -- the pass of strengths 1 to 3, alpha in the other. An alpha of 0 leaves a line
-abbrev pub kindOf : ℕ → ℕ
-kindOf s = cond (ltb s 4) s 4
+abbrev pub slotOf : ℕ → ℕ
+slotOf s = cond (ltb s 4) s 4
 
 abbrev pub weakRow : Thresholds → List ℕ
 weakRow l = 0 ∷ l .alpha ∷ l .alpha ∷ l .alpha ∷ 0 ∷ []
@@ -22,8 +22,8 @@ tcRow l = 0 ∷ l .tc1 ∷ l .tc2 ∷ l .tc3 ∷ 0 ∷ []
 abbrev pub strongRow : Thresholds → List ℕ
 strongRow l = 0 ∷ 0 ∷ 0 ∷ 0 ∷ l .alpha ∷ []
 
-abbrev pub ofKind : List ℕ → ℕ → ℕ
-ofKind l s = getD l (kindOf s) 0
+abbrev pub atSlot : List ℕ → ℕ → ℕ
+atSlot l s = getD l (slotOf s) 0
 
 -- sixteen lanes, two of each value
 abbrev pub spreadOf : ℕ → ℕ → ℕ → ℕ → ℕ → ℕ → ℕ → ℕ → List ℕ
@@ -31,11 +31,11 @@ spreadOf a b c d e f g h = a ∷ a ∷ b ∷ b ∷ c ∷ c ∷ d ∷ d ∷ e ∷
 
 -- of each luma line what the row l has for its strength
 abbrev pub fourEach : List ℕ → Four → List ℕ
-fourEach l s = spreadOf (ofKind l (s .a)) (ofKind l (s .a)) (ofKind l (s .b)) (ofKind l (s .b)) (ofKind l (s .c)) (ofKind l (s .c)) (ofKind l (s .d)) (ofKind l (s .d))
+fourEach l s = spreadOf (atSlot l (s .a)) (atSlot l (s .a)) (atSlot l (s .b)) (atSlot l (s .b)) (atSlot l (s .c)) (atSlot l (s .c)) (atSlot l (s .d)) (atSlot l (s .d))
 
 -- of each chroma line what its plane's row has: l is U's and m V's
 abbrev pub twoEach : List ℕ → List ℕ → Four → List ℕ
-twoEach l m s = spreadOf (ofKind l (s .a)) (ofKind l (s .b)) (ofKind l (s .c)) (ofKind l (s .d)) (ofKind m (s .a)) (ofKind m (s .b)) (ofKind m (s .c)) (ofKind m (s .d))
+twoEach l m s = spreadOf (atSlot l (s .a)) (atSlot l (s .b)) (atSlot l (s .c)) (atSlot l (s .d)) (atSlot m (s .a)) (atSlot m (s .b)) (atSlot m (s .c)) (atSlot m (s .d))
 
 -- x for U's lines and y for V's
 abbrev pub eightEach : ℕ → ℕ → List ℕ
@@ -52,8 +52,8 @@ abbrev pub any : (ℕ → Bool) → Four → Bool
 any on s = ((on (s .a) || on (s .b)) || on (s .c)) || on (s .d)
 
 -- no line can change: every strength is 0, or alpha is
-abbrev pub none : Four → Bool
-none s = ((eqb (s .a) 0 && eqb (s .b) 0) && eqb (s .c) 0) && eqb (s .d) 0
+abbrev pub allZero : Four → Bool
+allZero s = ((eqb (s .a) 0 && eqb (s .b) 0) && eqb (s .c) 0) && eqb (s .d) 0
 
-abbrev pub still : Four → Thresholds → Bool
-still s l = none s || eqb (l .alpha) 0
+abbrev pub stillEdge : Four → Thresholds → Bool
+stillEdge s l = allZero s || eqb (l .alpha) 0

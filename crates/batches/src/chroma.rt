@@ -1,4 +1,4 @@
-// The chroma lines of two edges of both planes: loaded into a block, filtered there, stored; or of one edge
+// The chroma lines of two edges of both planes: loaded into a batch, filtered there, stored; or of one edge
 // of one plane, one by one. `at` is the place of the first line's first sample, `along` the way from a line
 // to the next and `step` the way across; the second edge is four samples after the first, so that the two
 // share none.
@@ -9,9 +9,9 @@ ghost use lib.ListN.{length};
 ghost use Rattle.laws.specs.Loop.{upTo};
 ghost use Rattle.lines.specs.Depth.{eight};
 ghost use Rattle.lines.specs.Inner.{tcBy};
-ghost use Rattle.batches.specs.Lanes.{still};
+ghost use Rattle.batches.specs.Lanes.{stillEdge};
 ghost use Rattle.batches.specs.Lines.{Straight, upper, lower, shortAt, shortLines};
-ghost use Rattle.batches.specs.Moves.{takenBoth, given};
+ghost use Rattle.batches.specs.Moves.{takenBoth, stored};
 use crate::chroma_passes::first_edge;
 use crate::chroma_passes::second_edge;
 use crate::lanes::Four;
@@ -20,10 +20,8 @@ use crate::lanes::is_still;
 use crate::moves::zip;
 use crate::moves_both::load_cols;
 use crate::moves_both::load_rows;
-use crate::moves_both::store_cols_u;
-use crate::moves_both::store_cols_v;
-use crate::moves_both::store_rows_u;
-use crate::moves_both::store_rows_v;
+use crate::moves_both::store_cols;
+use crate::moves_both::store_rows;
 use lines::planes::filter_chroma_line;
 
 // What an edge is filtered with in both planes.
@@ -44,20 +42,17 @@ fn take(u: &[u8], v: &[u8], at: usize, along: usize, step: usize) -> [u8; 128]
     load_rows(u, v, at, step)
 }
 
-fn give(u: &mut [u8], v: &mut [u8], at: usize, along: usize, step: usize, t: [u8; 128])
+fn store(u: &mut [u8], v: &mut [u8], at: usize, along: usize, step: usize, t: [u8; 128])
     requires { ⌜ (at + 7 * along + 7 * step < length (now u)) × (at + 7 * along + 7 * step < length (now v)) ⌝ }
     requires { ⌜ Straight 8 along step ⌝ }
-    ensures { λ _. ⌜ now (u .exit) ≡ given 0 8 at along step t (now (u .entry)) ⌝ }
-    ensures { λ _. ⌜ now (v .exit) ≡ given 8 8 at along step t (now (v .entry)) ⌝ }
+    ensures { λ _. ⌜ now (u .exit) ≡ stored 0 8 at along step t (now (u .entry)) ⌝ }
+    ensures { λ _. ⌜ now (v .exit) ≡ stored 8 8 at along step t (now (v .entry)) ⌝ }
 {
     if step == 1 {
-        let w = zip(zip(zip(t)));
-        store_cols_u(u, at, along, w);
-        store_cols_v(v, at, along, w);
+        store_cols(u, v, at, along, zip(zip(zip(t))));
         return;
     }
-    store_rows_u(u, at, step, t);
-    store_rows_v(v, at, step, t);
+    store_rows(u, v, at, step, t);
 }
 
 // tC0 of a strength.
@@ -90,7 +85,7 @@ pub fn chroma_lines(plane: &mut [u8], at: usize, along: usize, step: usize, s: F
 }
 
 fn both_still(e: Both) -> bool
-    ensures { λ r. ⌜ r ≡ (still (e .s) (e .u) && still (e .s) (e .v)) ⌝ }
+    ensures { λ r. ⌜ r ≡ (stillEdge (e .s) (e .u) && stillEdge (e .s) (e .v)) ⌝ }
 {
     let s = e.s;
     let l = e.u;
@@ -98,8 +93,8 @@ fn both_still(e: Both) -> bool
     is_still(s, l) & is_still(s, m)
 }
 
-// Each line of the block at its own strength.
-fn block(t: [u8; 128], first: Both, second: Both) -> [u8; 128]
+// Each line of the batch at its own strength.
+fn chroma_batch(t: [u8; 128], first: Both, second: Both) -> [u8; 128]
     ensures { λ r. ⌜ r ≡ upTo 16 (shortAt eight lower (second .s) (second .u) (second .v)) (upTo 16 (shortAt eight upper (first .s) (first .u) (first .v)) t) ⌝ }
 {
     let s1 = first.s;
@@ -131,6 +126,6 @@ pub fn chroma_pair(
         return;
     }
     let t = take(u, v, at, along, step);
-    let r = block(t, first, second);
-    give(u, v, at, along, step, r);
+    let r = chroma_batch(t, first, second);
+    store(u, v, at, along, step, r);
 }

@@ -1,10 +1,10 @@
-// The chroma lines of a block: as the luma lines, for its first edge and then for its second. U's lines are
+// The chroma lines of a batch: as the luma lines, for its first edge and then for its second. U's lines are
 // lent by the thresholds l, V's by m.
 ghost use mathlib.Core.Path.{_≡_};
 ghost use Rattle.laws.specs.Loop.{upTo};
 ghost use Rattle.lines.specs.Depth.{eight};
 ghost use Rattle.batches.specs.Lanes.{isWeak, isStrong};
-ghost use Rattle.batches.specs.Lines.{upper, lower, sideStrength, shortAt, only};
+ghost use Rattle.batches.specs.Lines.{upper, lower, uvStrength, shortAt, passOf};
 use crate::lanes::Four;
 use crate::lanes::Thresholds;
 use crate::lanes::any_strong;
@@ -18,7 +18,7 @@ use lines::planes::chroma_normal;
 use lines::planes::chroma_strong;
 
 fn first_normal(t: [u8; 128], s: Four, l: Thresholds, m: Thresholds) -> [u8; 128]
-    ensures { λ r. ⌜ r ≡ upTo 16 (only isWeak (sideStrength s) (shortAt eight upper s l m)) t ⌝ }
+    ensures { λ r. ⌜ r ≡ upTo 16 (passOf isWeak (uvStrength s) (shortAt eight upper s l m)) t ⌝ }
 {
     if !any_weak(s) {
         return t;
@@ -34,7 +34,7 @@ fn first_normal(t: [u8; 128], s: Four, l: Thresholds, m: Thresholds) -> [u8; 128
 }
 
 fn first_strong(t: [u8; 128], s: Four, l: Thresholds, m: Thresholds) -> [u8; 128]
-    ensures { λ r. ⌜ r ≡ upTo 16 (only isStrong (sideStrength s) (shortAt eight upper s l m)) t ⌝ }
+    ensures { λ r. ⌜ r ≡ upTo 16 (passOf isStrong (uvStrength s) (shortAt eight upper s l m)) t ⌝ }
 {
     if !any_strong(s) {
         return t;
@@ -49,7 +49,7 @@ fn first_strong(t: [u8; 128], s: Four, l: Thresholds, m: Thresholds) -> [u8; 128
 }
 
 fn second_normal(t: [u8; 128], s: Four, l: Thresholds, m: Thresholds) -> [u8; 128]
-    ensures { λ r. ⌜ r ≡ upTo 16 (only isWeak (sideStrength s) (shortAt eight lower s l m)) t ⌝ }
+    ensures { λ r. ⌜ r ≡ upTo 16 (passOf isWeak (uvStrength s) (shortAt eight lower s l m)) t ⌝ }
 {
     if !any_weak(s) {
         return t;
@@ -65,7 +65,7 @@ fn second_normal(t: [u8; 128], s: Four, l: Thresholds, m: Thresholds) -> [u8; 12
 }
 
 fn second_strong(t: [u8; 128], s: Four, l: Thresholds, m: Thresholds) -> [u8; 128]
-    ensures { λ r. ⌜ r ≡ upTo 16 (only isStrong (sideStrength s) (shortAt eight lower s l m)) t ⌝ }
+    ensures { λ r. ⌜ r ≡ upTo 16 (passOf isStrong (uvStrength s) (shortAt eight lower s l m)) t ⌝ }
 {
     if !any_strong(s) {
         return t;

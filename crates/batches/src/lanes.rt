@@ -1,8 +1,8 @@
-// What each of a block's sixteen lines is lent, by the strength of its segment. Values come from a row of
+// What each of a batch's sixteen lines is lent, by the strength of its segment. Values come from a row of
 // five, not by branches, which mixed strengths would mislead.
 ghost use mathlib.Core.Path.{_≡_};
 ghost use Prim.Native.Nat.{_<_};
-ghost use Rattle.batches.specs.Lanes.{kindOf, weakRow, tcRow, strongRow, spreadOf, fourEach, twoEach, eightEach, isWeak, isStrong, any, none, still};
+ghost use Rattle.batches.specs.Lanes.{slotOf, weakRow, tcRow, strongRow, spreadOf, fourEach, twoEach, eightEach, isWeak, isStrong, any, allZero, stillEdge};
 
 // The strengths of an edge's four segments.
 pub struct Four {
@@ -21,8 +21,8 @@ pub struct Thresholds {
     pub tc3: u8,
 }
 
-fn kind(s: u8) -> usize
-    ensures is { λ r. ⌜ r ≡ kindOf s ⌝ }
+fn slot(s: u8) -> usize
+    ensures is { λ r. ⌜ r ≡ slotOf s ⌝ }
     ensures small { λ r. ⌜ r < 5 ⌝ }
 {
     if s < 4 { s as usize } else { 4 }
@@ -59,10 +59,10 @@ fn spread(a: u8, b: u8, c: u8, d: u8, e: u8, f: u8, g: u8, h: u8) -> [u8; 16]
 pub fn four_each(l: [u8; 5], s: Four) -> [u8; 16]
     ensures { λ r. ⌜ r ≡ fourEach l s ⌝ }
 {
-    let a = l[kind(s.a)];
-    let b = l[kind(s.b)];
-    let c = l[kind(s.c)];
-    let d = l[kind(s.d)];
+    let a = l[slot(s.a)];
+    let b = l[slot(s.b)];
+    let c = l[slot(s.c)];
+    let d = l[slot(s.d)];
     spread(a, a, b, b, c, c, d, d)
 }
 
@@ -70,10 +70,10 @@ pub fn four_each(l: [u8; 5], s: Four) -> [u8; 16]
 pub fn two_each(l: [u8; 5], m: [u8; 5], s: Four) -> [u8; 16]
     ensures { λ r. ⌜ r ≡ twoEach l m s ⌝ }
 {
-    let a = kind(s.a);
-    let b = kind(s.b);
-    let c = kind(s.c);
-    let d = kind(s.d);
+    let a = slot(s.a);
+    let b = slot(s.b);
+    let c = slot(s.c);
+    let d = slot(s.d);
     spread(l[a], l[b], l[c], l[d], m[a], m[b], m[c], m[d])
 }
 
@@ -102,15 +102,15 @@ pub fn any_strong(s: Four) -> bool
     (3 < s.a) | (3 < s.b) | (3 < s.c) | (3 < s.d)
 }
 
-fn no_line(s: Four) -> bool
-    ensures { λ r. ⌜ r ≡ none s ⌝ }
+fn all_zero(s: Four) -> bool
+    ensures { λ r. ⌜ r ≡ allZero s ⌝ }
 {
     (s.a == 0) & (s.b == 0) & (s.c == 0) & (s.d == 0)
 }
 
 // No line of the edge can change.
 pub fn is_still(s: Four, l: Thresholds) -> bool
-    ensures { λ r. ⌜ r ≡ still s l ⌝ }
+    ensures { λ r. ⌜ r ≡ stillEdge s l ⌝ }
 {
-    no_line(s) | (l.alpha == 0)
+    all_zero(s) | (l.alpha == 0)
 }

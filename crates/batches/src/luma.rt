@@ -1,15 +1,15 @@
-// The sixteen luma lines of an edge: loaded into a block, filtered there, stored. `at` is the place of the
+// The sixteen luma lines of an edge: loaded into a batch, filtered there, stored. `at` is the place of the
 // first line's first sample, `along` the way from a line to the next and `step` the way across.
 ghost use mathlib.Core.Path.{_≡_};
 ghost use Prim.Native.Nat.{_+_, _*_, _<_};
 ghost use lib.ListN.{length};
 ghost use Rattle.lines.specs.Depth.{eight};
 ghost use Rattle.batches.specs.Lines.{Straight, longLines};
-ghost use Rattle.batches.specs.Moves.{taken, given};
+ghost use Rattle.batches.specs.Moves.{taken, stored};
 use crate::lanes::Four;
 use crate::lanes::Thresholds;
 use crate::lanes::is_still;
-use crate::luma_passes::block;
+use crate::luma_passes::luma_batch;
 use crate::moves::load_cols;
 use crate::moves::load_rows;
 use crate::moves::store_cols;
@@ -27,10 +27,10 @@ fn take(p: &[u8], at: usize, along: usize, step: usize) -> [u8; 128]
     load_rows(p, at, step)
 }
 
-fn give(p: &mut [u8], at: usize, along: usize, step: usize, t: [u8; 128])
+fn store(p: &mut [u8], at: usize, along: usize, step: usize, t: [u8; 128])
     requires { ⌜ at + 15 * along + 7 * step < length (now p) ⌝ }
     requires { ⌜ Straight 16 along step ⌝ }
-    ensures { λ _. ⌜ now (p .exit) ≡ given 0 16 at along step t (now (p .entry)) ⌝ }
+    ensures { λ _. ⌜ now (p .exit) ≡ stored 0 16 at along step t (now (p .entry)) ⌝ }
 {
     if step == 1 {
         store_cols(p, at, along, zip(zip(zip(t))));
@@ -50,6 +50,6 @@ pub fn luma_lines(plane: &mut [u8], at: usize, along: usize, step: usize, s: Fou
         return;
     }
     let t = take(plane, at, along, step);
-    let r = block(t, s, l);
-    give(plane, at, along, step, r);
+    let r = luma_batch(t, s, l);
+    store(plane, at, along, step, r);
 }

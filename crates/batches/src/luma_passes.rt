@@ -1,10 +1,10 @@
-// The luma lines of a block: those of strengths 1 to 3 in one pass, those of strength 4 in another. A pass
+// The luma lines of a batch: those of strengths 1 to 3 in one pass, those of strength 4 in another. A pass
 // leaves a line that it lends an alpha of 0.
 ghost use mathlib.Core.Path.{_≡_};
 ghost use Rattle.laws.specs.Loop.{upTo};
 ghost use Rattle.lines.specs.Depth.{eight};
 ghost use Rattle.batches.specs.Lanes.{isWeak, isStrong};
-ghost use Rattle.batches.specs.Lines.{strengthAt, longAt, only};
+ghost use Rattle.batches.specs.Lines.{segmentStrength, longAt, passOf};
 use crate::lanes::Four;
 use crate::lanes::Thresholds;
 use crate::lanes::any_strong;
@@ -17,7 +17,7 @@ use lines::planes::luma_normal;
 use lines::planes::luma_strong;
 
 fn normal(t: [u8; 128], s: Four, l: Thresholds) -> [u8; 128]
-    ensures { λ r. ⌜ r ≡ upTo 16 (only isWeak (strengthAt 4 s) (longAt eight s l)) t ⌝ }
+    ensures { λ r. ⌜ r ≡ upTo 16 (passOf isWeak (segmentStrength 4 s) (longAt eight s l)) t ⌝ }
 {
     if !any_weak(s) {
         return t;
@@ -33,7 +33,7 @@ fn normal(t: [u8; 128], s: Four, l: Thresholds) -> [u8; 128]
 }
 
 fn strong(t: [u8; 128], s: Four, l: Thresholds) -> [u8; 128]
-    ensures { λ r. ⌜ r ≡ upTo 16 (only isStrong (strengthAt 4 s) (longAt eight s l)) t ⌝ }
+    ensures { λ r. ⌜ r ≡ upTo 16 (passOf isStrong (segmentStrength 4 s) (longAt eight s l)) t ⌝ }
 {
     if !any_strong(s) {
         return t;
@@ -48,7 +48,7 @@ fn strong(t: [u8; 128], s: Four, l: Thresholds) -> [u8; 128]
 }
 
 // Each line at its own strength.
-pub fn block(t: [u8; 128], s: Four, l: Thresholds) -> [u8; 128]
+pub fn luma_batch(t: [u8; 128], s: Four, l: Thresholds) -> [u8; 128]
     ensures { λ r. ⌜ r ≡ upTo 16 (longAt eight s l) t ⌝ }
 {
     strong(normal(t, s, l), s, l)

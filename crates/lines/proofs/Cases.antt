@@ -8,8 +8,8 @@ use Rattle.lines.specs.Filter.{deltaOf}
 use Rattle.lines.specs.Luma.{nudgeOf, innerOf, lumaNormal, strongSide, lumaStrong, normalLine, strongLine, lumaLine}
 use Rattle.lines.specs.Chroma.{chromaNormal, chromaStrong, normalShort, strongShort, chromaLine}
 use Rattle.lines.specs.Planes.{lumaAt, chromaAt}
-use Rattle.lines.specs.Cases.{cases}
+use Rattle.lines.specs.Cases.{lineCases}
 
-pub cases-hold : Holds cases
-unfolding cases clip3 clip1 alphas betas tc0s indexOf deltaOf nudgeOf innerOf lumaNormal strongSide lumaStrong normalLine strongLine lumaLine chromaNormal chromaStrong normalShort strongShort chromaLine lumaAt chromaAt
-cases-hold = (refl, (refl, (refl, (refl, (refl, (refl, (refl, (refl, tt))))))))
+pub line-cases-hold : Holds lineCases
+unfolding lineCases clip3 clip1 alphas betas tc0s indexOf deltaOf nudgeOf innerOf lumaNormal strongSide lumaStrong normalLine strongLine lumaLine chromaNormal chromaStrong normalShort strongShort chromaLine lumaAt chromaAt
+line-cases-hold = (refl, (refl, (refl, (refl, (refl, (refl, (refl, (refl, tt))))))))

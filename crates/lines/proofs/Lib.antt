@@ -1,9 +1,9 @@
+pub mod AnyLine
 pub mod Cases
 pub mod Examples
-pub mod Lent
-pub mod Moves
-pub mod OnPlane
+pub mod HowFar
 pub mod Refused
-pub mod Steps
 pub mod Strengths
+pub mod TableParts
+pub mod Unclipped
 pub mod Within

@@ -11,8 +11,10 @@ use Rattle.laws.specs.Clip.{clip3, clip1, dist}
 use Rattle.lines.specs.Depth.{eight}
 use Rattle.lines.specs.Tables.{alphas, betas, tc0s, alphaAt, betaAt, tc0At}
 use Rattle.lines.specs.Filter.{filterSamples, deltaOf}
-use Rattle.lines.specs.Luma.{Line, line, flatQ, nudgeOf, innerOf, lumaNormal, normalLine, lumaLine}
-use Rattle.lines.specs.Chroma.{Short, short, chromaNormal, normalShort, chromaLine}
+use Rattle.lines.specs.Luma.{line, flatQ, nudgeOf, innerOf, lumaNormal, normalLine, lumaLine}
+use Rattle.lines.specs.declared.luma.Line.{Line}
+use Rattle.lines.specs.Chroma.{short, chromaNormal, normalShort, chromaLine}
+use Rattle.lines.specs.declared.chroma.Short.{Short}
 
 differ : {a b : ℤ} → a ≡ b → natAbs a ≡ natAbs b
 differ e = ap natAbs e

@@ -13,13 +13,15 @@ use Rattle.laws.proofs.Clip.{clip1-le}
 use Rattle.laws.proofs.Cond.{cond-both}
 use Rattle.laws.proofs.Places.{Within, all-at, through-within}
 use Rattle.lines.specs.Depth.{Depth}
-use Rattle.lines.specs.Luma.{Line, kept, flatP, flatQ, closeTo, nudgeOf, innerOf, lumaNormal, strongSide, lumaStrong, lumaSamples, normalLine, strongLine, lumaLine}
-use Rattle.lines.specs.Chroma.{Short, same, chromaNormal, chromaStrong, chromaSamples, normalShort, strongShort, chromaLine}
+use Rattle.lines.specs.Luma.{kept, flatP, flatQ, closeTo, nudgeOf, innerOf, lumaNormal, strongSide, lumaStrong, lumaSamples, normalLine, strongLine, lumaLine}
+use Rattle.lines.specs.declared.luma.Line.{Line}
+use Rattle.lines.specs.Chroma.{same, chromaNormal, chromaStrong, chromaSamples, normalShort, strongShort, chromaLine}
+use Rattle.lines.specs.declared.chroma.Short.{Short}
 use Rattle.lines.specs.Planes.{toLine, fromSix, toShort, fromTwo, onLine, onShort, lumaAt, chromaAt}
 use Rattle.lines.specs.declared.luma.Six.{Six}
 use Rattle.lines.specs.declared.luma.Side.{Side}
 use Rattle.lines.specs.declared.shared.Two.{Two}
-use Rattle.lines.proofs.Steps.{inner-lands}
+use Rattle.lines.proofs.Unclipped.{inner-lands}
 
 -- no sample of the line is above top
 pub record LineIn (top : ℕ) (l : Line) : Type 0 where

@@ -12,8 +12,8 @@ use Rattle.lines.specs.Chroma.{chromaLine}
 use Rattle.lines.specs.Planes.{lumaAt, chromaAt}
 
 -- alpha, beta and the three tC0 of a QP and an offset
-abbrev levels : ℤ → ℤ → List ℕ
-levels qp off = alphaOf eight qp off ∷ betaOf eight qp off ∷ tc0Of eight qp off 0 ∷ tc0Of eight qp off 1 ∷ tc0Of eight qp off 2 ∷ []
+abbrev thresholdsAt : ℤ → ℤ → List ℕ
+thresholdsAt qp off = alphaOf eight qp off ∷ betaOf eight qp off ∷ tc0Of eight qp off 0 ∷ tc0Of eight qp off 1 ∷ tc0Of eight qp off 2 ∷ []
 
 -- a rule at the strength bs and QP 30: it takes the depth, bs, alpha, beta and tC0
 abbrev at30 : {A : Type 0} → (Depth → ℕ → ℕ → ℕ → ℕ → A) → ℕ → A
@@ -27,10 +27,10 @@ luma bs a b = lumaAt (at30 lumaLine bs) 0 1 (a ∷ a ∷ a ∷ a ∷ b ∷ b ∷
 abbrev chroma : ℕ → ℕ → ℕ → Plane
 chroma bs a b = chromaAt (at30 chromaLine bs) 0 1 (a ∷ a ∷ b ∷ b ∷ [])
 
-unfoldable pub cases : List Case
-cases =
-    record { number = 1; given = levels (pos 15) (pos 0) ++ levels (pos 16) (pos 0); paper = 0 ∷ 0 ∷ 0 ∷ 0 ∷ 0 ∷ 4 ∷ 2 ∷ 0 ∷ 0 ∷ 0 ∷ [] }
-    ∷ record { number = 2; given = levels (pos 51) (pos 12); paper = 255 ∷ 18 ∷ 13 ∷ 17 ∷ 25 ∷ [] }
+unfoldable pub lineCases : List Case
+lineCases =
+    record { number = 1; given = thresholdsAt (pos 15) (pos 0) ++ thresholdsAt (pos 16) (pos 0); paper = 0 ∷ 0 ∷ 0 ∷ 0 ∷ 0 ∷ 4 ∷ 2 ∷ 0 ∷ 0 ∷ 0 ∷ [] }
+    ∷ record { number = 2; given = thresholdsAt (pos 51) (pos 12); paper = 255 ∷ 18 ∷ 13 ∷ 17 ∷ 25 ∷ [] }
     ∷ record { number = 3; given = luma 2 60 70; paper = 60 ∷ 60 ∷ 61 ∷ 63 ∷ 67 ∷ 69 ∷ 70 ∷ 70 ∷ [] }
     ∷ record { number = 4; given = luma 4 60 70; paper = 60 ∷ 60 ∷ 60 ∷ 63 ∷ 68 ∷ 70 ∷ 70 ∷ 70 ∷ [] }
     ∷ record { number = 5; given = luma 4 60 67; paper = 60 ∷ 61 ∷ 62 ∷ 63 ∷ 64 ∷ 65 ∷ 66 ∷ 67 ∷ [] }

@@ -2,18 +2,12 @@
 -- chromaStyleFilteringFlag set. Its outcome are the two samples that a filter can change.
 use Prim.Native.Nat.{ℕ, _+_, _*_, _/_}
 use mathlib.Core.Bool.{Bool, cond}
-use lib.Dec.{ltb, eqb}
 use lib.IntN.{ℤ, pos, _+ℤ_, _-ℤ_}
 use Rattle.laws.specs.Clip.{clip1}
 use Rattle.lines.specs.Depth.{Depth}
-use Rattle.lines.specs.Filter.{filterSamples, deltaOf}
+use Rattle.lines.specs.Filter.{filterSamples, deltaOf, byStrength}
+use Rattle.lines.specs.declared.chroma.Short.{Short}
 use Rattle.lines.specs.declared.shared.Two.{Two}
-
-pub record Short : Type 0 where
-  pub p1 : ℕ
-  pub p0 : ℕ
-  pub q0 : ℕ
-  pub q1 : ℕ
 
 abbrev pub short : ℕ → ℕ → ℕ → ℕ → Short
 short a b c d = record { p1 = a; p0 = b; q0 = c; q1 = d }
@@ -42,7 +36,5 @@ normalShort d alpha beta tc0 l = cond (chromaSamples alpha beta l) (chromaNormal
 unfoldable pub strongShort : ℕ → ℕ → Short → Two
 strongShort alpha beta l = cond (chromaSamples alpha beta l) (chromaStrong l) (same l)
 
--- at the strength bs: 4 and above is strong, on any edge
 unfoldable pub chromaLine : Depth → ℕ → ℕ → ℕ → ℕ → Short → Two
-chromaLine d bs alpha beta tc0 l =
-    cond (eqb bs 0) (same l) (cond (ltb bs 4) (normalShort d alpha beta tc0 l) (strongShort alpha beta l))
+chromaLine d bs alpha beta tc0 l = byStrength bs (same l) (normalShort d alpha beta tc0 l) (strongShort alpha beta l)

@@ -2,24 +2,15 @@
 -- are the six samples that a filter can change.
 use Prim.Native.Nat.{ℕ, _+_, _*_, _/_}
 use mathlib.Core.Bool.{Bool, true, false, cond, _&&_}
-use lib.Dec.{ltb, eqb}
+use lib.Dec.{ltb}
 use lib.IntN.{ℤ, pos, negℤ, natAbs, _+ℤ_, _-ℤ_, _*ℤ_}
 use lib.Signed.{shrZ}
 use Rattle.laws.specs.Clip.{clip3, clip1, dist}
 use Rattle.lines.specs.Depth.{Depth}
-use Rattle.lines.specs.Filter.{filterSamples, deltaOf}
+use Rattle.lines.specs.Filter.{filterSamples, deltaOf, byStrength}
+use Rattle.lines.specs.declared.luma.Line.{Line}
 use Rattle.lines.specs.declared.luma.Six.{Six}
 use Rattle.lines.specs.declared.luma.Side.{Side}
-
-pub record Line : Type 0 where
-  pub p3 : ℕ
-  pub p2 : ℕ
-  pub p1 : ℕ
-  pub p0 : ℕ
-  pub q0 : ℕ
-  pub q1 : ℕ
-  pub q2 : ℕ
-  pub q3 : ℕ
 
 abbrev pub line : ℕ → ℕ → ℕ → ℕ → ℕ → ℕ → ℕ → ℕ → Line
 line a b c d e f g h = record { p3 = a; p2 = b; p1 = c; p0 = d; q0 = e; q1 = f; q2 = g; q3 = h }
@@ -36,13 +27,13 @@ abbrev pub flatQ : ℕ → Line → Bool
 flatQ beta l = ltb (dist (l .q2) (l .q0)) beta
 
 -- ---- bS < 4: clause 8.7.2.3
-abbrev pub one : Bool → ℕ
-one true = 1
-one false = 0
+abbrev pub oneIf : Bool → ℕ
+oneIf true = 1
+oneIf false = 0
 
 -- tC = tC0 + ((ap < beta) ? 1 : 0) + ((aq < beta) ? 1 : 0)
 abbrev pub tcOf : ℕ → ℕ → Line → ℕ
-tcOf beta tc0 l = tc0 + (one (flatP beta l) + one (flatQ beta l))
+tcOf beta tc0 l = tc0 + (oneIf (flatP beta l) + oneIf (flatQ beta l))
 
 abbrev pub lumaDelta : ℕ → ℕ → Line → ℤ
 lumaDelta beta tc0 l = deltaOf (tcOf beta tc0 l) (l .p1) (l .p0) (l .q0) (l .q1)
@@ -81,12 +72,12 @@ strongSide strong x3 x2 x1 x0 y0 y1 =
 abbrev pub closeTo : ℕ → Line → Bool
 closeTo alpha l = ltb (dist (l .p0) (l .q0)) (alpha / 4 + 2)
 
-abbrev pub joined : Side → Side → Six
-joined p q = record { p2 = p .x2; p1 = p .x1; p0 = p .x0; q0 = q .x0; q1 = q .x1; q2 = q .x2 }
+abbrev pub sixOf : Side → Side → Six
+sixOf p q = record { p2 = p .x2; p1 = p .x1; p0 = p .x0; q0 = q .x0; q1 = q .x1; q2 = q .x2 }
 
 unfoldable pub lumaStrong : ℕ → ℕ → Line → Six
 lumaStrong alpha beta l =
-    joined
+    sixOf
     (strongSide (closeTo alpha l && flatP beta l) (l .p3) (l .p2) (l .p1) (l .p0) (l .q0) (l .q1))
     (strongSide (closeTo alpha l && flatQ beta l) (l .q3) (l .q2) (l .q1) (l .q0) (l .p0) (l .p1))
 
@@ -100,7 +91,5 @@ normalLine d alpha beta tc0 l = cond (lumaSamples alpha beta l) (lumaNormal d be
 unfoldable pub strongLine : ℕ → ℕ → Line → Six
 strongLine alpha beta l = cond (lumaSamples alpha beta l) (lumaStrong alpha beta l) (kept l)
 
--- at the strength bs: 4 and above is strong, on any edge
 unfoldable pub lumaLine : Depth → ℕ → ℕ → ℕ → ℕ → Line → Six
-lumaLine d bs alpha beta tc0 l =
-    cond (eqb bs 0) (kept l) (cond (ltb bs 4) (normalLine d alpha beta tc0 l) (strongLine alpha beta l))
+lumaLine d bs alpha beta tc0 l = byStrength bs (kept l) (normalLine d alpha beta tc0 l) (strongLine alpha beta l)

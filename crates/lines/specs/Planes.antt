@@ -4,8 +4,10 @@ use Prim.Native.Nat.{ℕ}
 use mathlib.Core.List.{List, [], _∷_}
 use lib.ListN.{getD}
 use Rattle.laws.specs.Places.{Plane, lineAt}
-use Rattle.lines.specs.Luma.{Line, line}
-use Rattle.lines.specs.Chroma.{Short, short}
+use Rattle.lines.specs.Luma.{line}
+use Rattle.lines.specs.declared.luma.Line.{Line}
+use Rattle.lines.specs.Chroma.{short}
+use Rattle.lines.specs.declared.chroma.Short.{Short}
 use Rattle.lines.specs.declared.luma.Six.{Six}
 use Rattle.lines.specs.declared.shared.Two.{Two}
 

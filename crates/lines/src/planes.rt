@@ -1,18 +1,61 @@
-// A line of a plane, or of a block that is lent as one: read, filtered, stored. `at` is the place of its
+// A line of a plane, or of a batch that is lent as one: read, filtered, stored. `at` is the place of its
 // first sample and `step` the way to the next.
 ghost use mathlib.Core.Path.{_≡_};
 ghost use Prim.Native.Nat.{_+_, _*_, _<_};
 ghost use lib.ListN.{length};
-ghost use Rattle.laws.specs.Places.{places, puts};
+ghost use Rattle.laws.specs.Places.{places, gets, puts};
 ghost use Rattle.lines.specs.Depth.{eight};
 ghost use Rattle.lines.specs.Luma.{normalLine, strongLine, lumaLine};
 ghost use Rattle.lines.specs.Chroma.{normalShort, strongShort, chromaLine};
-ghost use Rattle.lines.specs.Planes.{fromSix, fromTwo, lumaAt, chromaAt};
+ghost use Rattle.lines.specs.Planes.{toLine, fromSix, toShort, fromTwo, lumaAt, chromaAt};
 use crate::chroma;
+use crate::chroma::Short;
 use crate::luma;
+use crate::luma::Line;
 use crate::luma::Six;
 use crate::shared::Two;
 
+// The eight samples of a luma line.
+fn get_line(plane: &[u8], at: usize, step: usize) -> Line
+    requires { ⌜ at + 7 * step < length (now plane) ⌝ }
+    ensures { λ r. ⌜ r ≡ toLine (gets (places at step 8) (now (plane .entry))) ⌝ }
+{
+    let b = at + step;
+    let c = b + step;
+    let d = c + step;
+    let e = d + step;
+    let f = e + step;
+    let g = f + step;
+    let h = g + step;
+    Line {
+        p3: plane[at],
+        p2: plane[b],
+        p1: plane[c],
+        p0: plane[d],
+        q0: plane[e],
+        q1: plane[f],
+        q2: plane[g],
+        q3: plane[h],
+    }
+}
+
+// The four samples of a chroma line.
+fn get_short(plane: &[u8], at: usize, step: usize) -> Short
+    requires { ⌜ at + 3 * step < length (now plane) ⌝ }
+    ensures { λ r. ⌜ r ≡ toShort (gets (places at step 4) (now (plane .entry))) ⌝ }
+{
+    let b = at + step;
+    let c = b + step;
+    let d = c + step;
+    Short {
+        p1: plane[at],
+        p0: plane[b],
+        q0: plane[c],
+        q1: plane[d],
+    }
+}
+
+// The six samples between the outermost.
 fn put_six(plane: &mut [u8], at: usize, step: usize, r: Six)
     requires { ⌜ at + 5 * step < length (now plane) ⌝ }
     ensures { λ _. ⌜ now (plane .exit) ≡ puts (places at step 6) (fromSix r) (now (plane .entry)) ⌝ }
@@ -30,6 +73,7 @@ fn put_six(plane: &mut [u8], at: usize, step: usize, r: Six)
     plane[f] = r.q2;
 }
 
+// The two samples between the outermost.
 fn put_two(plane: &mut [u8], at: usize, step: usize, r: Two)
     requires { ⌜ at + step < length (now plane) ⌝ }
     ensures { λ _. ⌜ now (plane .exit) ≡ puts (places at step 2) (fromTwo r) (now (plane .entry)) ⌝ }
@@ -44,27 +88,13 @@ pub fn luma_normal(plane: &mut [u8], at: usize, step: usize, alpha: u8, beta: u8
     requires { ⌜ at + 7 * step < length (now plane) ⌝ }
     ensures { λ _. ⌜ now (plane .exit) ≡ lumaAt (normalLine eight alpha beta tc0) at step (now (plane .entry)) ⌝ }
 {
-    let b = at + step;
-    let c = b + step;
-    let d = c + step;
-    let e = d + step;
-    let f = e + step;
-    let g = f + step;
-    let h = g + step;
-    let r = luma::normal_line(
-        alpha,
-        beta,
-        tc0,
-        plane[at],
-        plane[b],
-        plane[c],
-        plane[d],
-        plane[e],
-        plane[f],
-        plane[g],
-        plane[h],
+    let l = get_line(plane, at, step);
+    put_six(
+        plane,
+        at + step,
+        step,
+        luma::normal_line(alpha, beta, tc0, l),
     );
-    put_six(plane, b, step, r);
 }
 
 // Luma at strength 4.
@@ -72,26 +102,8 @@ pub fn luma_strong(plane: &mut [u8], at: usize, step: usize, alpha: u8, beta: u8
     requires { ⌜ at + 7 * step < length (now plane) ⌝ }
     ensures { λ _. ⌜ now (plane .exit) ≡ lumaAt (strongLine alpha beta) at step (now (plane .entry)) ⌝ }
 {
-    let b = at + step;
-    let c = b + step;
-    let d = c + step;
-    let e = d + step;
-    let f = e + step;
-    let g = f + step;
-    let h = g + step;
-    let r = luma::strong_line(
-        alpha,
-        beta,
-        plane[at],
-        plane[b],
-        plane[c],
-        plane[d],
-        plane[e],
-        plane[f],
-        plane[g],
-        plane[h],
-    );
-    put_six(plane, b, step, r);
+    let l = get_line(plane, at, step);
+    put_six(plane, at + step, step, luma::strong_line(alpha, beta, l));
 }
 
 // Luma at the strength bs.
@@ -122,11 +134,13 @@ pub fn chroma_normal(plane: &mut [u8], at: usize, step: usize, alpha: u8, beta: 
     requires { ⌜ at + 3 * step < length (now plane) ⌝ }
     ensures { λ _. ⌜ now (plane .exit) ≡ chromaAt (normalShort eight alpha beta tc0) at step (now (plane .entry)) ⌝ }
 {
-    let b = at + step;
-    let c = b + step;
-    let d = c + step;
-    let r = chroma::normal_line(alpha, beta, tc0, plane[at], plane[b], plane[c], plane[d]);
-    put_two(plane, b, step, r);
+    let l = get_short(plane, at, step);
+    put_two(
+        plane,
+        at + step,
+        step,
+        chroma::normal_line(alpha, beta, tc0, l),
+    );
 }
 
 // Chroma at strength 4.
@@ -134,11 +148,8 @@ pub fn chroma_strong(plane: &mut [u8], at: usize, step: usize, alpha: u8, beta: 
     requires { ⌜ at + 3 * step < length (now plane) ⌝ }
     ensures { λ _. ⌜ now (plane .exit) ≡ chromaAt (strongShort alpha beta) at step (now (plane .entry)) ⌝ }
 {
-    let b = at + step;
-    let c = b + step;
-    let d = c + step;
-    let r = chroma::strong_line(alpha, beta, plane[at], plane[b], plane[c], plane[d]);
-    put_two(plane, b, step, r);
+    let l = get_short(plane, at, step);
+    put_two(plane, at + step, step, chroma::strong_line(alpha, beta, l));
 }
 
 // Chroma at the strength bs.

@@ -34,7 +34,7 @@ pub fn clip1(v: i16) -> u8
 }
 
 // |a - b| < t
-pub fn near(a: u8, b: u8, t: u8) -> bool
+pub fn small_step(a: u8, b: u8, t: u8) -> bool
     ensures { λ r. ⌜ r ≡ ltb (dist a b) t ⌝ }
 {
     if a < b { b - a < t } else { a - b < t }
@@ -43,7 +43,7 @@ pub fn near(a: u8, b: u8, t: u8) -> bool
 pub fn filter_samples(alpha: u8, beta: u8, p1: u8, p0: u8, q0: u8, q1: u8) -> bool
     ensures { λ r. ⌜ r ≡ filterSamples alpha beta p1 p0 q0 q1 ⌝ }
 {
-    near(p0, q0, alpha) & near(p1, p0, beta) & near(q1, q0, beta)
+    small_step(p0, q0, alpha) & small_step(p1, p0, beta) & small_step(q1, q0, beta)
 }
 
 // delta for tC = tc0 + more.

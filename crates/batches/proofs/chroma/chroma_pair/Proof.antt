@@ -1,10 +1,10 @@
--- `chroma_pair`: where no line can change none does; else what is filtered in the block are the edges' lines.
+-- `chroma_pair`: where no line can change none does; else what is filtered in the batch are the edges' lines.
 -- Assumes nothing.
 use mathlib.Core.Path.{sym, _∙_}
 use borrow.Author.Needs.{needs}
 use Rattle.laws.proofs.Bools.{and-true}
 use Rattle.lines.specs.Depth.{eight}
-use Rattle.batches.specs.Lanes.{still}
+use Rattle.batches.specs.Lanes.{stillEdge}
 use Rattle.batches.proofs.EdgeLines.{pair-still, edges-u, edges-v}
 use Rattle.batches.proofs.chroma.chroma_pair.Statement.{statement}
 use Rattle.batches.proofs.chroma.chroma_pair.Tie as tie
@@ -15,8 +15,8 @@ returns c =
     let f = a .first in
     let g = a .second in
     let x = and-true _ _ (c .if1 .taken) in
-    let y = and-true (still (f .s) (f .u)) (still (f .s) (f .v)) (sym (c .before .before .both-still .ensures) ∙ x .0) in
-    let z = and-true (still (g .s) (g .u)) (still (g .s) (g .v)) (sym (c .before .both-still2 .ensures) ∙ x .1) in (
+    let y = and-true (stillEdge (f .s) (f .u)) (stillEdge (f .s) (f .v)) (sym (c .before .before .both-still .ensures) ∙ x .0) in
+    let z = and-true (stillEdge (g .s) (g .u)) (stillEdge (g .s) (g .v)) (sym (c .before .both-still2 .ensures) ∙ x .1) in (
       sym (pair-still eight (f .s) (g .s) (f .u) (g .u) (a .at) (a .along) (a .step) (a .u .now) (y .0) (z .0)),
       sym (pair-still eight (f .s) (g .s) (f .v) (g .v) (a .at) (a .along) (a .step) (a .v .now) (y .1) (z .1)),
     )
@@ -30,9 +30,9 @@ returns-2 c =
     let a = s .args in
     let f = a .first in
     let g = a .second in
-    let e = rw (t .take .ensures) at (b .block .ensures) in (
-      rw e at (w .give .ensures .0) ∙ edges-u eight (f .s) (g .s) (f .u) (f .v) (g .u) (g .v) (a .at) (a .along) (a .step) (a .u .now) (a .v .now) (s .pre .1) (s .pre .0 .0),
-      rw e at (w .give .ensures .1) ∙ edges-v eight (f .s) (g .s) (f .u) (f .v) (g .u) (g .v) (a .at) (a .along) (a .step) (a .u .now) (a .v .now) (s .pre .1) (s .pre .0 .1),
+    let e = rw (t .take .ensures) at (b .chroma-batch .ensures) in (
+      rw e at (w .store .ensures .0) ∙ edges-u eight (f .s) (g .s) (f .u) (f .v) (g .u) (g .v) (a .at) (a .along) (a .step) (a .u .now) (a .v .now) (s .pre .1) (s .pre .0 .0),
+      rw e at (w .store .ensures .1) ∙ edges-v eight (f .s) (g .s) (f .u) (f .v) (g .u) (g .v) (a .at) (a .along) (a .step) (a .u .now) (a .v .now) (s .pre .1) (s .pre .0 .1),
     )
 
 pub chroma-pair-spec : {M : Type 1} → statement M

@@ -10,7 +10,7 @@ use Rattle.lines.specs.Chroma.{normalShort}
 use Rattle.lines.specs.Planes.{chromaAt}
 use Rattle.batches.specs.Lanes.{isWeak}
 use Rattle.batches.specs.Lines.{upper}
-use Rattle.batches.proofs.Lent.{short-idle, short-weak}
+use Rattle.batches.proofs.LanesPass.{short-idle, short-weak}
 use Rattle.batches.proofs.chroma_passes.first_normal.Statement.{statement}
 use Rattle.batches.proofs.chroma_passes.first_normal.Tie as tie
 

@@ -10,7 +10,7 @@ use Rattle.lines.specs.Chroma.{strongShort}
 use Rattle.lines.specs.Planes.{chromaAt}
 use Rattle.batches.specs.Lanes.{isStrong}
 use Rattle.batches.specs.Lines.{upper}
-use Rattle.batches.proofs.Lent.{short-idle, short-strong}
+use Rattle.batches.proofs.LanesPass.{short-idle, short-strong}
 use Rattle.batches.proofs.chroma_passes.first_strong.Statement.{statement}
 use Rattle.batches.proofs.chroma_passes.first_strong.Tie as tie
 

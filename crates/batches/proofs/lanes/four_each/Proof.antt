@@ -6,7 +6,7 @@ use Rattle.batches.proofs.lanes.four_each.Tie as tie
 returns : tie.Need-returns
 returns c =
     let k = c .before in
-    rw (k .kind4 .ensures .0, k .before .kind3 .ensures .0, k .before .before .kind2 .ensures .0, k .before .before .before .kind .ensures .0) at (c .spread .ensures)
+    rw (k .slot4 .ensures .0, k .before .slot3 .ensures .0, k .before .before .slot2 .ensures .0, k .before .before .before .slot .ensures .0) at (c .spread .ensures)
 
 pub four-each-spec : {M : Type 1} → statement M
 four-each-spec =

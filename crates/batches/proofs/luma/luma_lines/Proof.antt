@@ -1,4 +1,4 @@
--- `luma_lines`: where no line can change none does; else what is filtered in the block are the edge's lines.
+-- `luma_lines`: where no line can change none does; else what is filtered in the batch are the edge's lines.
 -- Assumes nothing.
 use mathlib.Core.Path.{sym, _∙_}
 use borrow.Author.Needs.{needs}
@@ -19,8 +19,8 @@ returns-2 c =
     let t = b .before in
     let s = t .before .before .before .before .before in
     let a = s .args in
-    let e = rw (t .take .ensures) at (b .block .ensures) in
-    rw e at (w .give .ensures) ∙ long-edge eight (a .s) (a .l) (a .at) (a .along) (a .step) (a .plane .now) (s .pre .1) (s .pre .0)
+    let e = rw (t .take .ensures) at (b .luma-batch .ensures) in
+    rw e at (w .store .ensures) ∙ long-edge eight (a .s) (a .l) (a .at) (a .along) (a .step) (a .plane .now) (s .pre .1) (s .pre .0)
 
 pub luma-lines-spec : {M : Type 1} → statement M
 luma-lines-spec =

@@ -9,7 +9,7 @@ use Rattle.lines.specs.Depth.{eight}
 use Rattle.lines.specs.Luma.{normalLine}
 use Rattle.lines.specs.Planes.{lumaAt}
 use Rattle.batches.specs.Lanes.{isWeak}
-use Rattle.batches.proofs.Lent.{long-idle, long-weak}
+use Rattle.batches.proofs.LanesPass.{long-idle, long-weak}
 use Rattle.batches.proofs.luma_passes.normal.Statement.{statement}
 use Rattle.batches.proofs.luma_passes.normal.Tie as tie
 

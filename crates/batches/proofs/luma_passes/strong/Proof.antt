@@ -9,7 +9,7 @@ use Rattle.lines.specs.Depth.{eight}
 use Rattle.lines.specs.Luma.{strongLine}
 use Rattle.lines.specs.Planes.{lumaAt}
 use Rattle.batches.specs.Lanes.{isStrong}
-use Rattle.batches.proofs.Lent.{long-idle, long-strong}
+use Rattle.batches.proofs.LanesPass.{long-idle, long-strong}
 use Rattle.batches.proofs.luma_passes.strong.Statement.{statement}
 use Rattle.batches.proofs.luma_passes.strong.Tie as tie
 

@@ -4,7 +4,7 @@ use mathlib.Core.Path.{_≡_}
 use lib.ListN.{length}
 use Rattle.laws.specs.Loop.{upTo}
 use Rattle.laws.proofs.Loop.{loops}
-use Rattle.batches.specs.Moves.{copies, copied}
+use Rattle.batches.specs.Moves.{copies, copiedRow}
 use Rattle.batches.proofs.moves.copy8.Statement.{statement}
 use Rattle.batches.proofs.moves.copy8.Tie as tie
 
@@ -15,7 +15,7 @@ abbrev μ : tie.MeasureT-loop
 μ t₀ to p from k₀ t k = 8 - k
 
 returns : tie.Need-returns Inv μ
-unfolding copied
+unfolding copiedRow
 returns c = search loops
 
 pub copy8-spec : {M : Type 1} → statement M

@@ -5,13 +5,13 @@ use native.Mathlib.Omega.{arith}
 use lib.ListN.{length}
 use Rattle.laws.specs.Loop.{upTo}
 use Rattle.laws.proofs.Loop.{loops, mul-below}
-use Rattle.batches.specs.Moves.{copied, blank}
+use Rattle.batches.specs.Moves.{copiedRow, emptyBatch}
 use Rattle.batches.proofs.MovedRows.{into-first}
 use Rattle.batches.proofs.moves.load_rows.Statement.{statement}
 use Rattle.batches.proofs.moves.load_rows.Tie as tie
 
 abbrev Inv : tie.InvT-loop
-Inv p at stride t₀ r₀ t r = (r ≤ 8) × (length t ≡ 128) × (t ≡ upTo r (λ j. copied 16 (j * 16) (at + j * stride) p) t₀)
+Inv p at stride t₀ r₀ t r = (r ≤ 8) × (length t ≡ 128) × (t ≡ upTo r (λ j. copiedRow 16 (j * 16) (at + j * stride) p) t₀)
 
 abbrev μ : tie.MeasureT-loop
 μ p at stride t₀ r₀ t r = 8 - r
@@ -22,8 +22,8 @@ bound c = mul-below _ 8 _ (omega arith)
 returns : tie.Need-returns Inv μ
 returns c =
     let a = c .before .before .before .args in
-    let e : c .before .loop .t ≡ upTo 8 (λ j. copied 16 (j * 16) (a .at + j * a .stride) (a .p .now)) blank = search loops in
-    e ∙ into-first 8 16 16 (a .stride) (a .p .now) blank (a .at)
+    let e : c .before .loop .t ≡ upTo 8 (λ j. copiedRow 16 (j * 16) (a .at + j * a .stride) (a .p .now)) emptyBatch = search loops in
+    e ∙ into-first 8 16 16 (a .stride) (a .p .now) emptyBatch (a .at)
 
 pub load-rows-spec : {M : Type 1} → statement M
 load-rows-spec =

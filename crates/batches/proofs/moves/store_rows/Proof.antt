@@ -5,13 +5,13 @@ use native.Mathlib.Omega.{arith}
 use lib.ListN.{length}
 use Rattle.laws.specs.Loop.{upTo}
 use Rattle.laws.proofs.Loop.{loops, mul-below}
-use Rattle.batches.specs.Moves.{copied}
+use Rattle.batches.specs.Moves.{copiedRow}
 use Rattle.batches.proofs.MovedRows.{out-of-first}
 use Rattle.batches.proofs.moves.store_rows.Statement.{statement}
 use Rattle.batches.proofs.moves.store_rows.Tie as tie
 
 abbrev Inv : tie.InvT-loop
-Inv p₀ at stride t r₀ p r = (r ≤ 8) × (length p ≡ length p₀) × (p ≡ upTo r (λ j. copied 16 (at + j * stride) (j * 16) t) p₀)
+Inv p₀ at stride t r₀ p r = (r ≤ 8) × (length p ≡ length p₀) × (p ≡ upTo r (λ j. copiedRow 16 (at + j * stride) (j * 16) t) p₀)
 
 abbrev μ : tie.MeasureT-loop
 μ p₀ at stride t r₀ p r = 8 - r
@@ -22,7 +22,7 @@ bound c = mul-below _ 8 _ (omega arith)
 returns : tie.Need-returns Inv μ
 returns c =
     let a = c .before .before .before .args in
-    let e : c .before .loop .p ≡ upTo 8 (λ j. copied 16 (a .at + j * a .stride) (j * 16) (a .t4)) (a .p .now) = search loops in
+    let e : c .before .loop .p ≡ upTo 8 (λ j. copiedRow 16 (a .at + j * a .stride) (j * 16) (a .t4)) (a .p .now) = search loops in
     e ∙ out-of-first 8 16 (a .stride) 16 (a .t4) (a .p .now) (a .at)
 
 pub store-rows-spec : {M : Type 1} → statement M

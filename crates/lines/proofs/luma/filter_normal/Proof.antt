@@ -10,11 +10,11 @@ use lib.IntN.{pos, _+ℤ_, _-ℤ_}
 use Rattle.laws.specs.Clip.{clip1}
 use Rattle.lines.specs.Depth.{eight}
 use Rattle.lines.specs.Filter.{deltaOf}
-use Rattle.lines.specs.Luma.{one, innerOf, lumaNormal}
+use Rattle.lines.specs.Luma.{oneIf, innerOf, lumaNormal}
 use Rattle.lines.proofs.luma.filter_normal.Statement.{statement}
 use Rattle.lines.proofs.luma.filter_normal.Tie as tie
 
-is-one : (b : Bool) → boolByte b ≡ one b
+is-one : (b : Bool) → boolByte b ≡ oneIf b
 is-one true = refl
 is-one false = refl
 
@@ -22,24 +22,25 @@ small : (b : Bool) → boolByte b ≤ 1
 small true = lit≤ tt
 small false = lit≤ tt
 
-more : (tc0 : ℕ) {a b f g : Bool} → a ≡ f → b ≡ g → tc0 + (boolByte a + boolByte b) ≡ tc0 + (one f + one g)
-more tc0 {a} {b} p q = λ i. tc0 + ((is-one a ∙ ap one p) i + (is-one b ∙ ap one q) i)
+more : (tc0 : ℕ) {a b f g : Bool} → a ≡ f → b ≡ g → tc0 + (boolByte a + boolByte b) ≡ tc0 + (oneIf f + oneIf g)
+more tc0 {a} {b} p q = λ i. tc0 + ((is-one a ∙ ap oneIf p) i + (is-one b ∙ ap oneIf q) i)
 
 returns : tie.Need-returns
 unfolding lumaNormal
 returns c =
     let m = c .before .before in
     let a = m .before .before .before .args in
-    let p = m .before .before .near .ensures in
-    let q = m .before .near2 .ensures in
+    let l = a .l in
+    let p = m .before .before .small-step .ensures in
+    let q = m .before .small-step2 .ensures in
     let k = more (a .tc0) p q in
     λ i. record {
-      p2 = a .p2;
-      p1 = (c .before .inner .ensures ∙ ap (λ (b : Bool). innerOf b (a .tc0) (a .p2) (a .p1) (a .p0) (a .q0)) p) i;
-      p0 = (m .moved .ensures .0 ∙ (λ j. clip1 (eight .top) (pos (a .p0) +ℤ deltaOf (k j) (a .p1) (a .p0) (a .q0) (a .q1)))) i;
-      q0 = (m .moved .ensures .1 ∙ (λ j. clip1 (eight .top) (pos (a .q0) -ℤ deltaOf (k j) (a .p1) (a .p0) (a .q0) (a .q1)))) i;
-      q1 = (c .inner2 .ensures ∙ ap (λ (b : Bool). innerOf b (a .tc0) (a .q2) (a .q1) (a .p0) (a .q0)) q) i;
-      q2 = a .q2;
+      p2 = l .p2;
+      p1 = (c .before .inner-sample .ensures ∙ ap (λ (b : Bool). innerOf b (a .tc0) (l .p2) (l .p1) (l .p0) (l .q0)) p) i;
+      p0 = (m .moved .ensures .0 ∙ (λ j. clip1 (eight .top) (pos (l .p0) +ℤ deltaOf (k j) (l .p1) (l .p0) (l .q0) (l .q1)))) i;
+      q0 = (m .moved .ensures .1 ∙ (λ j. clip1 (eight .top) (pos (l .q0) -ℤ deltaOf (k j) (l .p1) (l .p0) (l .q0) (l .q1)))) i;
+      q1 = (c .inner-sample2 .ensures ∙ ap (λ (b : Bool). innerOf b (a .tc0) (l .q2) (l .q1) (l .p0) (l .q0)) q) i;
+      q2 = l .q2;
     }
 
 pub filter-normal-spec : {M : Type 1} → statement M
@@ -50,7 +51,7 @@ filter-normal-spec =
     (λ c κs. search needs)
     (λ c. search needs)
     (λ c. search needs)
-    (λ c. omega (arith, small (c .before .near .result), small (c .near2 .result)))
+    (λ c. omega (arith, small (c .before .small-step .result), small (c .small-step2 .result)))
     (λ c κs. search needs)
     (λ c κs. search needs)
     (λ c κs. search needs)

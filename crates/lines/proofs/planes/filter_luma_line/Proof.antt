@@ -3,7 +3,8 @@ use borrow.Author.Needs.{needs}
 use mathlib.Core.Path.{sym, _∙_}
 use native.Mathlib.Omega.{arith}
 use Rattle.lines.specs.Depth.{eight}
-use Rattle.lines.proofs.OnPlane.{lumaAt-same, lumaAt-kept}
+use Rattle.lines.specs.Planes.{lumaAt}
+use Rattle.lines.proofs.AnyLine.{lumaAt-kept}
 use Rattle.lines.proofs.Strengths.{luma-none, luma-normal, luma-strong}
 use Rattle.lines.proofs.planes.filter_luma_line.Statement.{statement}
 use Rattle.lines.proofs.planes.filter_luma_line.Tie as tie
@@ -17,13 +18,13 @@ returns-2 : tie.Need-returns-2
 returns-2 c =
     let a = c .before .before .before .before .before .before .before .args in
     c .before .before .luma-normal .ensures
-    ∙ sym (lumaAt-same (a .at) (a .step) (a .plane .now) _ _ (luma-normal eight (a .bs) (a .alpha) (a .beta) (a .tc0) (λ e. omega arith) (omega arith)))
+    ∙ sym (λ i. lumaAt (λ l. luma-normal eight (a .bs) (a .alpha) (a .beta) (a .tc0) (λ e. omega arith) (omega arith) l i) (a .at) (a .step) (a .plane .now))
 
 returns-3 : tie.Need-returns-3
 returns-3 c =
     let a = c .before .before .before .before .before .before .before .args in
     c .before .before .luma-strong .ensures
-    ∙ sym (lumaAt-same (a .at) (a .step) (a .plane .now) _ _ (luma-strong eight (a .bs) (a .alpha) (a .beta) (a .tc0) (omega arith)))
+    ∙ sym (λ i. lumaAt (λ l. luma-strong eight (a .bs) (a .alpha) (a .beta) (a .tc0) (omega arith) l i) (a .at) (a .step) (a .plane .now))
 
 pub filter-luma-line-spec : {M : Type 1} → statement M
 filter-luma-line-spec =

@@ -9,7 +9,7 @@ use Rattle.laws.specs.Clip.{clip1}
 use Rattle.laws.proofs.Num.{Num, byte, returned, add, add-ok, sub, sub-ok}
 use Rattle.lines.specs.Depth.{eight}
 use Rattle.lines.specs.Filter.{deltaOf}
-use Rattle.lines.proofs.Steps.{delta-abs}
+use Rattle.lines.proofs.Unclipped.{delta-abs}
 use Rattle.lines.proofs.shared.moved.Statement.{statement}
 use Rattle.lines.proofs.shared.moved.Tie as tie
 

@@ -1,7 +1,7 @@
 -- `alpha_at`: where its table stands in the lent one. Assumes nothing.
 use borrow.Author.Needs.{needs}
 use mathlib.Core.Path.{_∙_}
-use Rattle.lines.proofs.Lent.{alpha-in}
+use Rattle.lines.proofs.TableParts.{alpha-in}
 use Rattle.lines.proofs.tables.alpha_at.Statement.{statement}
 use Rattle.lines.proofs.tables.alpha_at.Tie as tie
 

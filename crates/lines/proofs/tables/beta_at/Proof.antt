@@ -1,7 +1,7 @@
 -- `beta_at`: where its table stands in the lent one. Assumes nothing.
 use borrow.Author.Needs.{needs}
 use mathlib.Core.Path.{_∙_}
-use Rattle.lines.proofs.Lent.{beta-in}
+use Rattle.lines.proofs.TableParts.{beta-in}
 use Rattle.lines.proofs.tables.beta_at.Statement.{statement}
 use Rattle.lines.proofs.tables.beta_at.Tie as tie
 

@@ -1,7 +1,7 @@
 -- `qpc_at`: where its table stands in the lent one. Assumes nothing.
 use borrow.Author.Needs.{needs}
 use mathlib.Core.Path.{_∙_}
-use Rattle.lines.proofs.Lent.{qpc-in}
+use Rattle.lines.proofs.TableParts.{qpc-in}
 use Rattle.lines.proofs.tables.qpc_at.Statement.{statement}
 use Rattle.lines.proofs.tables.qpc_at.Tie as tie
 

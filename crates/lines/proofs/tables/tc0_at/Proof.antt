@@ -1,7 +1,7 @@
 -- `tc0_at`: where its table stands in the lent one. Assumes nothing.
 use borrow.Author.Needs.{needs}
 use mathlib.Core.Path.{_∙_}
-use Rattle.lines.proofs.Lent.{tc0-in}
+use Rattle.lines.proofs.TableParts.{tc0-in}
 use Rattle.lines.proofs.tables.tc0_at.Statement.{statement}
 use Rattle.lines.proofs.tables.tc0_at.Tie as tie
 

@@ -1,4 +1,4 @@
--- `inner`: the moved sample lies between samples, so the cast keeps it. Assumes nothing.
+-- `inner_sample`: the moved sample lies between samples, so the cast keeps it. Assumes nothing.
 use borrow.Author.Needs.{needs}
 use mathlib.Core.Path.{_≡_, ap, _∙_}
 use Prim.Native.Nat.{ℕ, _+_, _/_, _≤_}
@@ -7,9 +7,9 @@ use lib.IntN.{ℤ, pos, natAbs, _+ℤ_}
 use mir.Syntax.{w16}
 use Rattle.laws.proofs.Num.{Num, byte, returned, add, add-ok}
 use Rattle.lines.specs.Luma.{nudgeOf, innerOf}
-use Rattle.lines.proofs.Steps.{Lands, nudge-abs, inner-lands}
-use Rattle.lines.proofs.luma.inner.Statement.{statement}
-use Rattle.lines.proofs.luma.inner.Tie as tie
+use Rattle.lines.proofs.Unclipped.{Lands, nudge-abs, inner-lands}
+use Rattle.lines.proofs.luma.inner_sample.Statement.{statement}
+use Rattle.lines.proofs.luma.inner_sample.Tie as tie
 
 bound : (c : tie.Start) → natAbs (nudgeOf (c .args .tc0) (c .args .x2) (c .args .x1) (c .args .p0) (c .args .q0)) ≤ 255
 bound c = omega (arith, nudge-abs (c .args .tc0) (c .args .x2) (c .args .x1) (c .args .p0) (c .args .q0))
@@ -34,8 +34,8 @@ returns-2 : tie.Need-returns-2
 unfolding innerOf
 returns-2 c = simp (c .if1 .left)
 
-pub inner-spec : {M : Type 1} → statement M
-inner-spec =
+pub inner-sample-spec : {M : Type 1} → statement M
+inner-sample-spec =
     tie.close
     (tie.spec
     (λ c κs. search needs)

@@ -15,11 +15,13 @@ use Rattle.laws.proofs.Clip.{up-near, down-near}
 use Rattle.laws.proofs.Cond.{cond-both}
 use Rattle.lines.specs.Depth.{Depth}
 use Rattle.lines.specs.Filter.{deltaOf}
-use Rattle.lines.specs.Luma.{Line, kept, flatP, flatQ, one, tcOf, nudgeOf, innerOf, lumaNormal, lumaSamples, normalLine, lumaLine}
-use Rattle.lines.specs.Chroma.{Short, same, chromaNormal, chromaSamples, normalShort, chromaLine}
+use Rattle.lines.specs.Luma.{kept, flatP, flatQ, oneIf, tcOf, nudgeOf, innerOf, lumaNormal, lumaSamples, normalLine, lumaLine}
+use Rattle.lines.specs.declared.luma.Line.{Line}
+use Rattle.lines.specs.Chroma.{same, chromaNormal, chromaSamples, normalShort, chromaLine}
+use Rattle.lines.specs.declared.chroma.Short.{Short}
 use Rattle.lines.specs.declared.luma.Six.{Six}
 use Rattle.lines.specs.declared.shared.Two.{Two}
-use Rattle.lines.proofs.Steps.{delta-abs, nudge-abs}
+use Rattle.lines.proofs.Unclipped.{delta-abs, nudge-abs}
 use Rattle.lines.proofs.Within.{LineIn, ShortIn}
 
 pub record Moved (tc0 : ℕ) (l : Line) (r : Six) : Type 0 where
@@ -43,7 +45,7 @@ up-delta top tc p1 p0 q0 q1 h = le-trans (up-near top p0 (deltaOf tc p1 p0 q0 q1
 down-delta : (top tc p1 p0 q0 q1 : ℕ) → q0 ≤ top → dist (clip1 top (pos q0 -ℤ deltaOf tc p1 p0 q0 q1)) q0 ≤ tc
 down-delta top tc p1 p0 q0 q1 h = le-trans (down-near top q0 (deltaOf tc p1 p0 q0 q1) h) (delta-abs tc p1 p0 q0 q1)
 
-two : (a b : Bool) → one a + one b ≤ 2
+two : (a b : Bool) → oneIf a + oneIf b ≤ 2
 two true true = omega arith
 two true false = omega arith
 two false true = omega arith

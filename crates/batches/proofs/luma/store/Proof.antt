@@ -1,15 +1,15 @@
--- `give`: by the test either kind of edge. Assumes nothing.
+-- `store`: by the test either kind of edge. Assumes nothing.
 use mathlib.Core.Path.{ap, _∙_}
 use native.Mathlib.Omega.{arith}
 use borrow.Author.Needs.{needs}
 use borrow.Author.Tests.{eq-eqb, ne-eqb}
-use Rattle.batches.specs.Moves.{zipped, given}
+use Rattle.batches.specs.Moves.{zipped, stored}
 use Rattle.batches.proofs.Bands.{along-one}
-use Rattle.batches.proofs.luma.give.Statement.{statement}
-use Rattle.batches.proofs.luma.give.Tie as tie
+use Rattle.batches.proofs.luma.store.Statement.{statement}
+use Rattle.batches.proofs.luma.store.Tie as tie
 
 returns : tie.Need-returns
-unfolding given
+unfolding stored
 returns c =
     let w = c .before .before in
     let z3 = w .before in
@@ -19,11 +19,11 @@ returns c =
     simp (eq-eqb _ 1 (z1 .before .before .if1 .taken)) (rw e at (w .store-cols .ensures))
 
 returns-2 : tie.Need-returns-2
-unfolding given
+unfolding stored
 returns-2 c = let w = c .before .before in simp (ne-eqb _ 1 (w .before .before .if1 .left)) (w .store-rows .ensures)
 
-pub give-spec : {M : Type 1} → statement M
-give-spec =
+pub store-spec : {M : Type 1} → statement M
+store-spec =
     tie.close
     (tie.spec
     (λ c κs. search needs)

@@ -1,20 +1,31 @@
 -- Apart: no promise to a caller of the public calls rests on it. What functions of this crate ask of their
 -- callers, and when a macroblock is left at once.
-use Prim.Native.Nat.{ℕ, _*_, _≤_}
+use Prim.Native.Nat.{ℕ, _+_, _-_, _*_, _<_, _≤_}
 use mathlib.Core.Path.{_≡_}
 use mathlib.Core.Bool.{Bool, true, false, _&&_}
 use lib.Dec.{eqb}
 use Rattle.laws.specs.Loop.{upTo}
+use Rattle.edges.specs.declared.settings.Switches.{Switches}
+use Rattle.edges.specs.declared.settings.Window.{Window}
 
--- the lengths are enough for n macroblocks
-pub record Room (n y u v qps t8s bs : ℕ) : Type 0 where
-  pub luma : 256 * n ≤ y
-  pub cb : 64 * n ≤ u
-  pub cr : 64 * n ≤ v
-  pub qp : n ≤ qps
-  pub flag : eqb t8s 0 ≡ false → n ≤ t8s
-  pub strength : 32 * n ≤ bs
+-- the lengths of the planes, the QPs, the flags (none, or one each) and the strengths are enough for n
+-- macroblocks
+pub record Room (n l lu lv lq lt ls : ℕ) : Type 0 where
+  pub luma : 256 * n ≤ l
+  pub u : 64 * n ≤ lu
+  pub v : 64 * n ≤ lv
+  pub qps : n ≤ lq
+  pub t8s : eqb lt 0 ≡ false → n ≤ lt
+  pub strengths : 32 * n ≤ ls
+
+-- a macroblock of N by N samples lies in a plane of `len`, whose rows are at least as wide; before a border
+-- that is on there are `half` samples
+pub record InPlane (N half : ℕ) (on : Switches) (at : Window) (len : ℕ) : Type 0 where
+  pub left : on .left ≡ true → half * 1 ≤ at .origin
+  pub top : on .top ≡ true → half * at .stride ≤ at .origin
+  pub ends : at .origin + (N - 1) * at .stride + (N - 1) < len
+  pub wide : N ≤ at .stride
 
 -- all 32 strengths are 0: nothing is to do
-unfoldable pub idleOf : (ℕ → ℕ) → Bool
-idleOf bs = upTo 32 (λ (k : ℕ) (b : Bool). b && eqb (bs k) 0) true
+unfoldable pub allZero : (ℕ → ℕ) → Bool
+allZero strengths = upTo 32 (λ (k : ℕ) (b : Bool). b && eqb (strengths k) 0) true

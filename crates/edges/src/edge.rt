@@ -1,6 +1,6 @@
-// Edges of a macroblock, whose lines are filtered by `blocks`. `at` is the place of the first line's first
+// Edges of a macroblock, whose lines are filtered by `batches`. `at` is the place of the first line's first
 // sample, `along` the way from a line to the next and `step` the way across, so that vertical and horizontal
-// edges are one function. The four strengths of an edge stand at `first` in `bs`.
+// edges are one function. The four strengths of an edge stand at `base` in `strengths`.
 ghost use mathlib.Core.Path.{_≡_};
 ghost use Prim.Native.Nat.{_+_, _*_, _<_, _≤_};
 ghost use lib.ListN.{length};
@@ -10,7 +10,7 @@ ghost use Rattle.edges.specs.Edge.{lumaEdge, chromaEdge};
 ghost use Rattle.edges.specs.Levels.{fourOf, bothOf};
 ghost use Rattle.edges.specs.Macroblock.{after};
 ghost use Rattle.edges.specs.Picture.{entries};
-use crate::levels::Way;
+use crate::levels::WayLevels;
 use batches::chroma::Both;
 use batches::chroma::chroma_lines;
 use batches::chroma::chroma_pair;
@@ -19,24 +19,24 @@ use batches::lanes::Thresholds;
 use batches::luma::luma_lines;
 
 // The strengths of an edge's four segments.
-fn four(bs: &[u8], first: usize) -> Four
-    requires { ⌜ first + 4 ≤ length (now bs) ⌝ }
-    ensures { λ r. ⌜ r ≡ fourOf (after first (entries (now (bs .entry)))) ⌝ }
+fn four_strengths(strengths: &[u8], base: usize) -> Four
+    requires { ⌜ base + 4 ≤ length (now strengths) ⌝ }
+    ensures { λ r. ⌜ r ≡ fourOf (after base (entries (now (strengths .entry)))) ⌝ }
 {
     Four {
-        a: bs[first],
-        b: bs[first + 1],
-        c: bs[first + 2],
-        d: bs[first + 3],
+        a: strengths[base],
+        b: strengths[base + 1],
+        c: strengths[base + 2],
+        d: strengths[base + 3],
     }
 }
 
 // .. with the thresholds of both chroma planes.
-fn both(bs: &[u8], first: usize, u: Thresholds, v: Thresholds) -> Both
-    requires { ⌜ first + 4 ≤ length (now bs) ⌝ }
-    ensures { λ r. ⌜ r ≡ bothOf (after first (entries (now (bs .entry)))) u v ⌝ }
+fn both(strengths: &[u8], base: usize, u: Thresholds, v: Thresholds) -> Both
+    requires { ⌜ base + 4 ≤ length (now strengths) ⌝ }
+    ensures { λ r. ⌜ r ≡ bothOf (after base (entries (now (strengths .entry)))) u v ⌝ }
 {
-    let s = four(bs, first);
+    let s = four_strengths(strengths, base);
     Both { s, u, v }
 }
 
@@ -46,15 +46,15 @@ pub fn luma_edge(
     at: usize,
     along: usize,
     step: usize,
-    bs: &[u8],
-    first: usize,
+    strengths: &[u8],
+    base: usize,
     l: Thresholds,
 )
-    requires { ⌜ (at + 15 * along + 7 * step < length (now plane)) × (first + 4 ≤ length (now bs)) ⌝ }
+    requires { ⌜ (at + 15 * along + 7 * step < length (now plane)) × (base + 4 ≤ length (now strengths)) ⌝ }
     requires { ⌜ Straight 16 along step ⌝ }
-    ensures { λ _. ⌜ now (plane .exit) ≡ lumaEdge (lumaWith eight l) (after first (entries (now (bs .entry)))) at along step (now (plane .entry)) ⌝ }
+    ensures { λ _. ⌜ now (plane .exit) ≡ lumaEdge (lumaWith eight l) (after base (entries (now (strengths .entry)))) at along step (now (plane .entry)) ⌝ }
 {
-    let s = four(bs, first);
+    let s = four_strengths(strengths, base);
     luma_lines(plane, at, along, step, s, l);
 }
 
@@ -64,14 +64,14 @@ pub fn chroma_edge(
     at: usize,
     along: usize,
     step: usize,
-    bs: &[u8],
-    first: usize,
+    strengths: &[u8],
+    base: usize,
     l: Thresholds,
 )
-    requires { ⌜ (at + 7 * along + 3 * step < length (now plane)) × (first + 4 ≤ length (now bs)) ⌝ }
-    ensures { λ _. ⌜ now (plane .exit) ≡ chromaEdge (chromaWith eight l) (after first (entries (now (bs .entry)))) at along step (now (plane .entry)) ⌝ }
+    requires { ⌜ (at + 7 * along + 3 * step < length (now plane)) × (base + 4 ≤ length (now strengths)) ⌝ }
+    ensures { λ _. ⌜ now (plane .exit) ≡ chromaEdge (chromaWith eight l) (after base (entries (now (strengths .entry)))) at along step (now (plane .entry)) ⌝ }
 {
-    let s = four(bs, first);
+    let s = four_strengths(strengths, base);
     chroma_lines(plane, at, along, step, s, l);
 }
 
@@ -82,21 +82,21 @@ pub fn chroma_edges(
     at: usize,
     along: usize,
     step: usize,
-    bs: &[u8],
-    first: usize,
-    cb: Way,
-    cr: Way,
+    strengths: &[u8],
+    base: usize,
+    by_u: WayLevels,
+    by_v: WayLevels,
 )
-    requires { ⌜ (at + 7 * along + 7 * step < length (now u)) × (at + 7 * along + 7 * step < length (now v)) × (first + 12 ≤ length (now bs)) ⌝ }
+    requires { ⌜ (at + 7 * along + 7 * step < length (now u)) × (at + 7 * along + 7 * step < length (now v)) × (base + 12 ≤ length (now strengths)) ⌝ }
     requires { ⌜ Straight 8 along step ⌝ }
-    ensures { λ _. ⌜ now (u .exit) ≡ chromaEdge (chromaWith eight (cb .inside)) (after (first + 8) (entries (now (bs .entry)))) (at + 4 * step) along step (chromaEdge (chromaWith eight (cb .border)) (after first (entries (now (bs .entry)))) at along step (now (u .entry))) ⌝ }
-    ensures { λ _. ⌜ now (v .exit) ≡ chromaEdge (chromaWith eight (cr .inside)) (after (first + 8) (entries (now (bs .entry)))) (at + 4 * step) along step (chromaEdge (chromaWith eight (cr .border)) (after first (entries (now (bs .entry)))) at along step (now (v .entry))) ⌝ }
+    ensures { λ _. ⌜ now (u .exit) ≡ chromaEdge (chromaWith eight («by_u» .inside)) (after (base + 8) (entries (now (strengths .entry)))) (at + 4 * step) along step (chromaEdge (chromaWith eight («by_u» .border)) (after base (entries (now (strengths .entry)))) at along step (now (u .entry))) ⌝ }
+    ensures { λ _. ⌜ now (v .exit) ≡ chromaEdge (chromaWith eight («by_v» .inside)) (after (base + 8) (entries (now (strengths .entry)))) (at + 4 * step) along step (chromaEdge (chromaWith eight («by_v» .border)) (after base (entries (now (strengths .entry)))) at along step (now (v .entry))) ⌝ }
 {
-    let bu = cb.border;
-    let bv = cr.border;
-    let iu = cb.inside;
-    let iv = cr.inside;
-    let border = both(bs, first, bu, bv);
-    let inside = both(bs, first + 8, iu, iv);
+    let border_u = by_u.border;
+    let border_v = by_v.border;
+    let inside_u = by_u.inside;
+    let inside_v = by_v.inside;
+    let border = both(strengths, base, border_u, border_v);
+    let inside = both(strengths, base + 8, inside_u, inside_v);
     chroma_pair(u, v, at, along, step, border, inside);
 }

@@ -1,20 +1,23 @@
-// One macroblock: its vertical edges, then its horizontal ones. Its 32 strengths stand at `first` in `bs`.
+// One macroblock: its vertical edges, then its horizontal ones. Its 32 strengths stand at `base` in
+// `strengths`.
 ghost use mathlib.Core.Path.{_≡_};
 ghost use Prim.Native.Nat.{_+_, _-_, _*_, _<_, _≤_};
 ghost use mathlib.Core.Bool.{true, cond};
 ghost use lib.ListN.{length};
 ghost use Rattle.lines.specs.Depth.{eight};
 ghost use Rattle.batches.specs.Lines.{Straight, lumaWith, chromaWith};
-ghost use Rattle.edges.specs.Edge.{lumaEdge};
-ghost use Rattle.edges.specs.Levels.{acrossOf, downOf};
-ghost use Rattle.edges.specs.Macroblock.{after, lumaWay, chromaWay, lumaBoth, chromaBoth};
-ghost use Rattle.edges.specs.Inner.{idleOf};
+ghost use Rattle.edges.specs.Edge.{lumaEdge, chromaEdge};
+ghost use Rattle.edges.specs.Levels.{leftWay, topWay, lumaBy, chromaBy};
+ghost use Rattle.edges.specs.Macroblock.{after, lumaOn, chromaOn, lumaWay, chromaWay};
+ghost use Rattle.edges.specs.Inner.{InPlane, allZero};
 ghost use Rattle.edges.specs.Picture.{entries};
 use crate::edge::chroma_edge;
 use crate::edge::chroma_edges;
 use crate::edge::luma_edge;
-use crate::levels::Three;
-use crate::levels::Way;
+use crate::levels::PlaneLevels;
+use crate::levels::WayLevels;
+use crate::settings::Switches;
+use crate::settings::Window;
 use batches::lanes::Thresholds;
 
 // An edge, if it is to be filtered. `q` is the place of its first line's q0.
@@ -24,150 +27,231 @@ fn luma_edge_if(
     q: usize,
     along: usize,
     step: usize,
-    bs: &[u8],
-    first: usize,
+    strengths: &[u8],
+    base: usize,
     l: Thresholds,
 )
-    requires { ⌜ (on ≡ true → 4 * step ≤ q) × (q + 15 * along + 3 * step < length (now plane)) × (first + 4 ≤ length (now bs)) ⌝ }
+    requires { ⌜ (on ≡ true → 4 * step ≤ q) × (q + 15 * along + 3 * step < length (now plane)) × (base + 4 ≤ length (now strengths)) ⌝ }
     requires { ⌜ Straight 16 along step ⌝ }
-    ensures { λ _. ⌜ now (plane .exit) ≡ cond on (lumaEdge (lumaWith eight l) (after first (entries (now (bs .entry)))) (q - 4 * step) along step (now (plane .entry))) (now (plane .entry)) ⌝ }
+    ensures { λ _. ⌜ now (plane .exit) ≡ cond on (lumaEdge (lumaWith eight l) (after base (entries (now (strengths .entry)))) (q - 4 * step) along step (now (plane .entry))) (now (plane .entry)) ⌝ }
 {
     if on {
-        luma_edge(plane, q - 4 * step, along, step, bs, first, l);
+        luma_edge(plane, q - 4 * step, along, step, strengths, base, l);
     }
 }
 
-// The luma edges of one direction.
+// .. an edge of one chroma plane.
+fn chroma_edge_if(
+    on: bool,
+    plane: &mut [u8],
+    q: usize,
+    along: usize,
+    step: usize,
+    strengths: &[u8],
+    base: usize,
+    l: Thresholds,
+)
+    requires { ⌜ (on ≡ true → 2 * step ≤ q) × (q + 7 * along + step < length (now plane)) × (base + 4 ≤ length (now strengths)) ⌝ }
+    ensures { λ _. ⌜ now (plane .exit) ≡ cond on (chromaEdge (chromaWith eight l) (after base (entries (now (strengths .entry)))) (q - 2 * step) along step (now (plane .entry))) (now (plane .entry)) ⌝ }
+{
+    if on {
+        chroma_edge(plane, q - 2 * step, along, step, strengths, base, l);
+    }
+}
+
+// The luma edges of one direction: its border if that is on, and those inside if they are.
 fn luma_way(
     plane: &mut [u8],
-    near: bool,
+    on: bool,
+    inner: bool,
     t8: bool,
     origin: usize,
     along: usize,
     step: usize,
-    bs: &[u8],
-    first: usize,
-    border: Thresholds,
-    inside: Thresholds,
+    strengths: &[u8],
+    base: usize,
+    by: WayLevels,
 )
-    requires { ⌜ (near ≡ true → 4 * step ≤ origin) × (origin + 15 * along + 15 * step < length (now plane)) × (first + 16 ≤ length (now bs)) ⌝ }
+    requires { ⌜ (on ≡ true → 4 * step ≤ origin) × (origin + 15 * along + 15 * step < length (now plane)) × (base + 16 ≤ length (now strengths)) ⌝ }
     requires { ⌜ Straight 16 along step ⌝ }
-    ensures { λ _. ⌜ now (plane .exit) ≡ lumaWay (lumaWith eight border) (lumaWith eight inside) near t8 (after first (entries (now (bs .entry)))) origin along step (now (plane .entry)) ⌝ }
+    ensures { λ _. ⌜ now (plane .exit) ≡ lumaWay (lumaWith eight (by .border)) (lumaWith eight (by .inside)) (lumaOn on inner t8) (after base (entries (now (strengths .entry)))) origin along step (now (plane .entry)) ⌝ }
 {
     let q1 = origin + 4 * step;
     let q2 = origin + 8 * step;
     let q3 = origin + 12 * step;
-    luma_edge_if(near, plane, origin, along, step, bs, first, border);
-    luma_edge_if(!t8, plane, q1, along, step, bs, first + 4, inside);
-    luma_edge_if(true, plane, q2, along, step, bs, first + 8, inside);
-    luma_edge_if(!t8, plane, q3, along, step, bs, first + 12, inside);
+    let odd = inner & !t8;
+    let border = by.border;
+    let inside = by.inside;
+    luma_edge_if(on, plane, origin, along, step, strengths, base, border);
+    luma_edge_if(odd, plane, q1, along, step, strengths, base + 4, inside);
+    luma_edge_if(inner, plane, q2, along, step, strengths, base + 8, inside);
+    luma_edge_if(odd, plane, q3, along, step, strengths, base + 12, inside);
 }
 
-// The thresholds of the vertical edges.
-fn across(m: Three) -> Way
-    ensures { λ r. ⌜ r ≡ acrossOf m ⌝ }
-{
-    let border = m.left;
-    let inside = m.inner;
-    Way { border, inside }
-}
-
-// The thresholds of the horizontal edges.
-fn down(m: Three) -> Way
-    ensures { λ r. ⌜ r ≡ downOf m ⌝ }
-{
-    let border = m.top;
-    let inside = m.inner;
-    Way { border, inside }
-}
-
-// The chroma edges of one direction in both planes, with the strengths of luma's edges 0 and 2. At the
-// picture's border there is only the one inside.
+// The chroma edges of one direction in both planes, with the strengths of luma's edges 0 and 2. Where both
+// are on they are filtered at once.
 fn chroma_way(
     u: &mut [u8],
     v: &mut [u8],
-    near: bool,
+    on: bool,
+    inner: bool,
     origin: usize,
     along: usize,
     step: usize,
-    bs: &[u8],
-    first: usize,
-    cb: Way,
-    cr: Way,
+    strengths: &[u8],
+    base: usize,
+    by_u: WayLevels,
+    by_v: WayLevels,
 )
-    requires { ⌜ (near ≡ true → 2 * step ≤ origin) × (origin + 7 * along + 7 * step < length (now u)) × (origin + 7 * along + 7 * step < length (now v)) × (first + 16 ≤ length (now bs)) ⌝ }
+    requires { ⌜ (on ≡ true → 2 * step ≤ origin) × (origin + 7 * along + 7 * step < length (now u)) × (origin + 7 * along + 7 * step < length (now v)) × (base + 16 ≤ length (now strengths)) ⌝ }
     requires { ⌜ Straight 8 along step ⌝ }
-    ensures { λ _. ⌜ now (u .exit) ≡ chromaWay (chromaWith eight (cb .border)) (chromaWith eight (cb .inside)) near (after first (entries (now (bs .entry)))) origin along step (now (u .entry)) ⌝ }
-    ensures { λ _. ⌜ now (v .exit) ≡ chromaWay (chromaWith eight (cr .border)) (chromaWith eight (cr .inside)) near (after first (entries (now (bs .entry)))) origin along step (now (v .entry)) ⌝ }
+    ensures { λ _. ⌜ now (u .exit) ≡ chromaWay (chromaWith eight («by_u» .border)) (chromaWith eight («by_u» .inside)) (chromaOn on inner) (after base (entries (now (strengths .entry)))) origin along step (now (u .entry)) ⌝ }
+    ensures { λ _. ⌜ now (v .exit) ≡ chromaWay (chromaWith eight («by_v» .border)) (chromaWith eight («by_v» .inside)) (chromaOn on inner) (after base (entries (now (strengths .entry)))) origin along step (now (v .entry)) ⌝ }
 {
-    if near {
-        chroma_edges(u, v, origin - 2 * step, along, step, bs, first, cb, cr);
+    if on & inner {
+        chroma_edges(
+            u,
+            v,
+            origin - 2 * step,
+            along,
+            step,
+            strengths,
+            base,
+            by_u,
+            by_v,
+        );
         return;
     }
-    let iu = cb.inside;
-    let iv = cr.inside;
-    chroma_edge(u, origin + 2 * step, along, step, bs, first + 8, iu);
-    chroma_edge(v, origin + 2 * step, along, step, bs, first + 8, iv);
+    let q = origin + 4 * step;
+    let second = base + 8;
+    let border_u = by_u.border;
+    let border_v = by_v.border;
+    let inside_u = by_u.inside;
+    let inside_v = by_v.inside;
+    chroma_edge_if(on, u, origin, along, step, strengths, base, border_u);
+    chroma_edge_if(on, v, origin, along, step, strengths, base, border_v);
+    chroma_edge_if(inner, u, q, along, step, strengths, second, inside_u);
+    chroma_edge_if(inner, v, q, along, step, strengths, second, inside_v);
 }
 
-// All luma edges, in a plane whose rows are `stride` samples; `origin` is the macroblock's first.
-pub fn luma(
-    plane: &mut [u8],
-    left: bool,
-    top: bool,
-    t8: bool,
-    origin: usize,
-    stride: usize,
-    bs: &[u8],
-    first: usize,
-    m: Three,
-)
-    requires { ⌜ (left ≡ true → 4 * 1 ≤ origin) × (top ≡ true → 4 * stride ≤ origin) × (origin + 15 * stride + 15 < length (now plane)) × (first + 32 ≤ length (now bs)) ⌝ }
-    requires { ⌜ 16 ≤ stride ⌝ }
-    ensures { λ _. ⌜ now (plane .exit) ≡ lumaBoth (lumaWith eight (m .left)) (lumaWith eight (m .top)) (lumaWith eight (m .inner)) left top t8 (after first (entries (now (bs .entry)))) origin stride (now (plane .entry)) ⌝ }
+// The thresholds of the vertical edges.
+fn left_way(m: PlaneLevels) -> WayLevels
+    ensures { λ r. ⌜ r ≡ leftWay m ⌝ }
 {
-    let l = m.left;
-    let t = m.top;
-    let i = m.inner;
-    luma_way(plane, left, t8, origin, stride, 1, bs, first, l, i);
-    luma_way(plane, top, t8, origin, 1, stride, bs, first + 16, t, i);
+    let border = m.left;
+    let inside = m.inner;
+    WayLevels { border, inside }
+}
+
+// The thresholds of the horizontal edges.
+fn top_way(m: PlaneLevels) -> WayLevels
+    ensures { λ r. ⌜ r ≡ topWay m ⌝ }
+{
+    let border = m.top;
+    let inside = m.inner;
+    WayLevels { border, inside }
+}
+
+// All luma edges.
+pub fn luma_plane(
+    plane: &mut [u8],
+    on: Switches,
+    at: Window,
+    strengths: &[u8],
+    base: usize,
+    m: PlaneLevels,
+)
+    requires { ⌜ InPlane 16 4 on at (length (now plane)) × (base + 32 ≤ length (now strengths)) ⌝ }
+    ensures { λ _. ⌜ now (plane .exit) ≡ lumaBy eight (after base (entries (now (strengths .entry)))) on at m (now (plane .entry)) ⌝ }
+{
+    let origin = at.origin;
+    let stride = at.stride;
+    let left = left_way(m);
+    let top = top_way(m);
+    luma_way(
+        plane,
+        on.left,
+        on.inner,
+        on.t8,
+        origin,
+        stride,
+        1,
+        strengths,
+        base,
+        left,
+    );
+    luma_way(
+        plane,
+        on.top,
+        on.inner,
+        on.t8,
+        origin,
+        1,
+        stride,
+        strengths,
+        base + 16,
+        top,
+    );
 }
 
 // All edges of both chroma planes.
-pub fn chroma(
+pub fn chroma_planes(
     u: &mut [u8],
     v: &mut [u8],
-    left: bool,
-    top: bool,
-    origin: usize,
-    stride: usize,
-    bs: &[u8],
-    first: usize,
-    cb: Three,
-    cr: Three,
+    on: Switches,
+    at: Window,
+    strengths: &[u8],
+    base: usize,
+    by_u: PlaneLevels,
+    by_v: PlaneLevels,
 )
-    requires { ⌜ (left ≡ true → 2 * 1 ≤ origin) × (top ≡ true → 2 * stride ≤ origin) × (origin + 7 * stride + 7 < length (now u)) × (origin + 7 * stride + 7 < length (now v)) × (first + 32 ≤ length (now bs)) ⌝ }
-    requires { ⌜ 8 ≤ stride ⌝ }
-    ensures { λ _. ⌜ now (u .exit) ≡ chromaBoth (chromaWith eight (cb .left)) (chromaWith eight (cb .top)) (chromaWith eight (cb .inner)) left top (after first (entries (now (bs .entry)))) origin stride (now (u .entry)) ⌝ }
-    ensures { λ _. ⌜ now (v .exit) ≡ chromaBoth (chromaWith eight (cr .left)) (chromaWith eight (cr .top)) (chromaWith eight (cr .inner)) left top (after first (entries (now (bs .entry)))) origin stride (now (v .entry)) ⌝ }
+    requires { ⌜ InPlane 8 2 on at (length (now u)) × InPlane 8 2 on at (length (now v)) × (base + 32 ≤ length (now strengths)) ⌝ }
+    ensures { λ _. ⌜ now (u .exit) ≡ chromaBy eight (after base (entries (now (strengths .entry)))) on at «by_u» (now (u .entry)) ⌝ }
+    ensures { λ _. ⌜ now (v .exit) ≡ chromaBy eight (after base (entries (now (strengths .entry)))) on at «by_v» (now (v .entry)) ⌝ }
 {
-    let horizontal = first + 16;
-    let lu = across(cb);
-    let lv = across(cr);
-    let tu = down(cb);
-    let tv = down(cr);
-    chroma_way(u, v, left, origin, stride, 1, bs, first, lu, lv);
-    chroma_way(u, v, top, origin, 1, stride, bs, horizontal, tu, tv);
+    let origin = at.origin;
+    let stride = at.stride;
+    let horizontal = base + 16;
+    let left_u = left_way(by_u);
+    let left_v = left_way(by_v);
+    let top_u = top_way(by_u);
+    let top_v = top_way(by_v);
+    chroma_way(
+        u,
+        v,
+        on.left,
+        on.inner,
+        origin,
+        stride,
+        1,
+        strengths,
+        base,
+        left_u,
+        left_v,
+    );
+    chroma_way(
+        u,
+        v,
+        on.top,
+        on.inner,
+        origin,
+        1,
+        stride,
+        strengths,
+        horizontal,
+        top_u,
+        top_v,
+    );
 }
 
 // All 32 strengths are 0.
-pub fn idle(bs: &[u8], first: usize) -> bool
-    requires { ⌜ first + 32 ≤ length (now bs) ⌝ }
-    ensures { λ r. ⌜ r ≡ idleOf (after first (entries (now (bs .entry)))) ⌝ }
+pub fn all_zero(strengths: &[u8], base: usize) -> bool
+    requires { ⌜ base + 32 ≤ length (now strengths) ⌝ }
+    ensures { λ r. ⌜ r ≡ allZero (after base (entries (now (strengths .entry)))) ⌝ }
 {
     let mut all = true;
     for k in 0..32usize {
-        all = all & (bs[first + k] == 0);
+        all = all & (strengths[base + k] == 0);
     }
     all
 }

@@ -44,11 +44,11 @@ module _ (d : Lent) (a b ly lu lv : ℕ) where
         let f = g .fit in
         record {
           luma = omega (arith, f .luma);
-          cb = omega (arith, f .u);
-          cr = omega (arith, f .v);
-          qp = omega (arith, f .qps);
-          flag = λ h. omega (arith, f .t8s h);
-          strength = omega (arith, f .strengths);
+          u = omega (arith, f .u);
+          v = omega (arith, f .v);
+          qps = omega (arith, f .qps);
+          t8s = λ h. omega (arith, f .t8s h);
+          strengths = omega (arith, f .strengths);
         }
 
     pub ends : b * d .size .w ≤ d .size .w * d .size .h

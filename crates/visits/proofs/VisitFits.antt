@@ -59,9 +59,9 @@ module _ (d : Lent) (ly lu lv : ℕ) where
         let k = g .fit in
         record {
           luma = omega (arith, k .luma);
-          cb = omega (arith, k .u);
-          cr = omega (arith, k .v);
-          qp = omega (arith, k .qps);
-          flag = λ h. omega (arith, k .t8s h);
-          strength = omega (arith, k .strengths);
+          u = omega (arith, k .u);
+          v = omega (arith, k .v);
+          qps = omega (arith, k .qps);
+          t8s = λ h. omega (arith, k .t8s h);
+          strengths = omega (arith, k .strengths);
         }

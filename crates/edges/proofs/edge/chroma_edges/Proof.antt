@@ -1,7 +1,7 @@
--- `chroma_edges`: the lines that `blocks` filters are the edges'. Assumes nothing.
+-- `chroma_edges`: the lines that `batches` filters are the edges'. Assumes nothing.
 use borrow.Author.Needs.{needs}
 use mathlib.Core.Path.{_∙_}
-use Rattle.edges.proofs.Segments.{pair-segments}
+use Rattle.edges.proofs.FourSegments.{pair-segments}
 use Rattle.edges.proofs.edge.chroma_edges.Statement.{statement}
 use Rattle.edges.proofs.edge.chroma_edges.Tie as tie
 
@@ -15,8 +15,8 @@ returns c =
     let b = i .before in
     let a = b .before .before .before .before .before .before .before .before .args in
     let e = rw (i .both2 .ensures, b .both .ensures) at (w .chroma-pair .ensures) in (
-      e .0 ∙ pair-segments _ _ (a .cb .border) (a .cb .inside) (a .at) (a .along) (a .step) (a .u .now),
-      e .1 ∙ pair-segments _ _ (a .cr .border) (a .cr .inside) (a .at) (a .along) (a .step) (a .v .now),
+      e .0 ∙ pair-segments _ _ _ (a .by-u .border) (a .by-u .inside) (a .at) (a .along) (a .step) (a .u .now),
+      e .1 ∙ pair-segments _ _ _ (a .by-v .border) (a .by-v .inside) (a .at) (a .along) (a .step) (a .v .now),
     )
 
 pub chroma-edges-spec : {M : Type 1} → statement M

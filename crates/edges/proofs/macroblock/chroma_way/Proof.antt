@@ -1,12 +1,14 @@
--- `chroma_way`: both edges of both planes, or the one inside. Assumes nothing.
+-- `chroma_way`: both edges of both planes at once, or each that is on. Assumes nothing.
 use borrow.Author.Needs.{needs}
+use native.Mathlib.Omega.{arith}
+use Rattle.laws.proofs.Bools.{and-true}
 use Rattle.edges.specs.Picture.{entries}
-use Rattle.edges.proofs.Ways.{chroma-near, chroma-far}
+use Rattle.edges.proofs.EdgeByEdge.{chroma-two, chroma-pair-on}
 use Rattle.edges.proofs.macroblock.chroma_way.Statement.{statement}
 use Rattle.edges.proofs.macroblock.chroma_way.Tie as tie
 
 sub-chroma-edges : tie.Need-sub-chroma-edges
-sub-chroma-edges c = c .before .before .before .before .before .before .pre .0 .0 (c .before .before .if1 .taken)
+sub-chroma-edges c = let s = c .before .before .before .before .before .before in s .pre .0 .0 (and-true (s .args .on) (s .args .inner) (c .before .before .if1 .taken) .0)
 
 returns : tie.Need-returns
 returns c =
@@ -14,19 +16,23 @@ returns c =
     let i = w .before .before .before in
     let s = i .before .before .before .before in
     let a = s .args in
-    let h = s .pre .0 .0 (i .if1 .taken) in (
-      rw (i .if1 .taken) (chroma-near (entries (a .bs .now)) (a .first) (a .origin) (a .along) (a .step) _ _ (a .u .now) h (w .chroma-edges .ensures .0)),
-      rw (i .if1 .taken) (chroma-near (entries (a .bs .now)) (a .first) (a .origin) (a .along) (a .step) _ _ (a .v .now) h (w .chroma-edges .ensures .1)),
+    let h = s .pre .0 .0 (and-true (a .on) (a .inner) (i .if1 .taken) .0) in (
+      chroma-pair-on (entries (a .strengths .now)) (a .base) (a .origin) (a .along) (a .step) _ _ (a .on) (a .inner) (a .u .now) (i .if1 .taken) h (w .chroma-edges .ensures .0),
+      chroma-pair-on (entries (a .strengths .now)) (a .base) (a .origin) (a .along) (a .step) _ _ (a .on) (a .inner) (a .v .now) (i .if1 .taken) h (w .chroma-edges .ensures .1),
     )
+
+chroma-edge-if-requires-2 : tie.Need-chroma-edge-if-requires-2
+chroma-edge-if-requires-2 c κs = let s = c .before .before .before .before .before .before .before .before .before .before .before .before .before in (s .pre .0 .0, omega arith, omega arith)
 
 returns-2 : tie.Need-returns-2
 returns-2 c =
-    let v = c .before .before in
-    let u = v .before .before .before .before in
-    let i = u .before .before .before .before in
-    let a = i .before .before .before .before .args in (
-      rw (i .if1 .left) (chroma-far (entries (a .bs .now)) (a .first) (a .origin) (a .along) (a .step) _ _ (a .u .now) (u .chroma-edge .ensures)),
-      rw (i .if1 .left) (chroma-far (entries (a .bs .now)) (a .first) (a .origin) (a .along) (a .step) _ _ (a .v .now) (v .chroma-edge2 .ensures)),
+    let k4 = c .before .before in
+    let k3 = k4 .before .before .before .before in
+    let k2 = k3 .before .before .before .before in
+    let k1 = k2 .before .before .before .before in
+    let a = k1 .before .before .before .before .before .before .before .before .before .before .args in (
+      chroma-two (entries (a .strengths .now)) (a .base) (a .origin) (a .along) (a .step) _ _ (a .on) (a .inner) (a .u .now) (k1 .chroma-edge-if .ensures) (k3 .chroma-edge-if3 .ensures),
+      chroma-two (entries (a .strengths .now)) (a .base) (a .origin) (a .along) (a .step) _ _ (a .on) (a .inner) (a .v .now) (k2 .chroma-edge-if2 .ensures) (k4 .chroma-edge-if4 .ensures),
     )
 
 pub chroma-way-spec : {M : Type 1} → statement M
@@ -43,9 +49,8 @@ chroma-way-spec =
     (λ c. search needs)
     (λ c. search needs)
     (λ c κs. search needs)
-    (λ c. search needs)
-    (λ c. search needs)
-    (λ c. search needs)
+    chroma-edge-if-requires-2
+    (λ c κs. search needs)
     (λ c κs. search needs)
     (λ c. search needs)
     (λ c. search needs)

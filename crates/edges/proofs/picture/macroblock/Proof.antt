@@ -1,47 +1,53 @@
 -- `macroblock`: with all strengths 0 nothing would change; else the calls make the definition's step. Assumes
 -- nothing.
 use borrow.Author.Needs.{needs}
-use borrow.Author.Tests.{ltb-true}
 use mathlib.Core.Path.{sym, _∙_}
 use native.Mathlib.Omega.{arith}
-use Rattle.laws.proofs.Grid.{row-pos}
-use Rattle.edges.specs.Picture.{held}
-use Rattle.edges.proofs.Idle.{macroblock-still, idle-zero}
-use Rattle.edges.proofs.Made.{made}
+use Rattle.edges.specs.Picture.{entries, held}
+use Rattle.edges.proofs.Unchanged.{macroblock-still, all-zero}
+use Rattle.edges.proofs.ByPlan.{luma-inside, chroma-inside, planned}
 use Rattle.edges.proofs.picture.macroblock.Statement.{statement}
 use Rattle.edges.proofs.picture.macroblock.Tie as tie
 
 returns : tie.Need-returns
 returns c =
     let a = c .before .before .before .before .before .before .before .before .args in
-    sym (macroblock-still (held (a .w) (a .bs .now) (a .qps .now) (a .t8s .now) (a .o)) (a .x) (a .row) (idle-zero _ (sym (c .before .idle .ensures) ∙ c .if1 .taken)) _)
+    sym (macroblock-still (held (a .w) (a .strengths .now) (a .qps .now) (a .t8s .now) (a .o)) (a .x) (a .row) (all-zero _ (sym (c .before .all-zero .ensures) ∙ c .if1 .taken)) _)
 
-flag-requires : tie.Need-flag-requires
-flag-requires c κs h = let k = c .before .before .before .before .before .before .before .before .pre .1 .1 .flag h in omega arith
+plan-at-requires : tie.Need-plan-at-requires
+plan-at-requires c κs =
+    let s = c .before .before .before .before .before .before .before .before in
+    let r = s .pre .1 .1 in
+    (s .pre .0, (s .pre .1 .0, omega arith, r .qps, r .t8s))
 
-of-macroblock-requires : tie.Need-of-macroblock-requires
-of-macroblock-requires c κs =
-    let s = c .before .before .before .before .before .before .before .before .before in
-    (s .pre .0, (omega arith, λ h. omega (arith, ltb-true), λ h. omega (arith, row-pos (s .args .row) (s .args .w) (ltb-true 0 (s .args .row) h))))
+luma-plane-requires : tie.Need-luma-plane-requires
+luma-plane-requires c κs =
+    let m = c .before .before .before .before .before .before .before .before in
+    let s = m .before .before .before .before .before .before .before .before .before in
+    let a = s .args in
+    let g = held (a .w) (a .strengths .now) (a .qps .now) (a .t8s .now) (a .o) in
+    (luma-inside g (a .x) (a .row) (s .pre .1 .0) _ (s .pre .1 .1 .luma) _ (m .plan-at .ensures (entries (a .strengths .now))), omega (arith, s .pre))
 
-luma-requires : tie.Need-luma-requires
-luma-requires c κs =
-    let s = c .before .before .before .before .before .before .before .before .before .before .before .before .before in
-    ((λ h. omega (arith, s .pre, ltb-true), λ h. omega (arith, row-pos (s .args .row) (s .args .w) (ltb-true 0 (s .args .row) h)), omega (arith, s .pre), omega (arith, s .pre)), omega (arith, s .pre))
-
-chroma-requires : tie.Need-chroma-requires
-chroma-requires c κs =
-    let s = c .before .before .before .before .before .before .before .before .before .before .before .before .before .before .before .before .before .before in
-    ((λ h. omega (arith, s .pre, ltb-true), λ h. omega (arith, row-pos (s .args .row) (s .args .w) (ltb-true 0 (s .args .row) h)), omega (arith, s .pre), omega (arith, s .pre), omega (arith, s .pre)), omega (arith, s .pre))
+chroma-planes-requires : tie.Need-chroma-planes-requires
+chroma-planes-requires c κs =
+    let m = c .before .before .before .before .before .before .before .before .before .before .before .before .before in
+    let s = m .before .before .before .before .before .before .before .before .before in
+    let a = s .args in
+    let g = held (a .w) (a .strengths .now) (a .qps .now) (a .t8s .now) (a .o) in
+    let e = m .plan-at .ensures (entries (a .strengths .now)) in (
+      chroma-inside g (a .x) (a .row) (s .pre .1 .0) _ (s .pre .1 .1 .u) _ e,
+      chroma-inside g (a .x) (a .row) (s .pre .1 .0) _ (s .pre .1 .1 .v) _ e,
+      omega (arith, s .pre),
+    )
 
 returns-2 : tie.Need-returns-2
 returns-2 c =
     let z = c .before .before .before .before in
     let y = z .before .before .before .before .before in
-    let m = y .before .before .before .before in
-    let a = m .before .before .before .before .before .before .before .before .before .before .args in
-    made (a .w) (a .x) (a .row) (a .bs .now) (a .qps .now) (a .t8s .now) (a .o) (a .y .now) (a .u .now) (a .v .now) _ _ (m .before .flag .ensures) (m .of-macroblock .ensures)
-    (y .luma .ensures) (z .chroma .ensures .0) (z .chroma .ensures .1)
+    let m = y .before .before .before .before .before .before .before .before .before in
+    let a = m .before .before .before .before .before .before .before .before .before .args in
+    planned (held (a .w) (a .strengths .now) (a .qps .now) (a .t8s .now) (a .o)) (a .x) (a .row) (a .luma .now) (a .u .now) (a .v .now) _
+    (m .plan-at .ensures (entries (a .strengths .now))) (y .luma-plane .ensures) (z .chroma-planes .ensures .0) (z .chroma-planes .ensures .1)
 
 pub macroblock-spec : {M : Type 1} → statement M
 macroblock-spec =
@@ -52,18 +58,9 @@ macroblock-spec =
     (λ c. search needs)
     (λ c κs. search needs)
     returns
-    flag-requires
-    (λ c. search needs)
-    (λ c. search needs)
-    (λ c. search needs)
-    (λ c. search needs)
-    (λ c. search needs)
-    (λ c. search needs)
-    (λ c. search needs)
-    (λ c. search needs)
-    of-macroblock-requires
-    luma-requires
-    chroma-requires
+    plan-at-requires
+    luma-plane-requires
+    chroma-planes-requires
     (λ c. search needs)
     (λ c. search needs)
     (λ c. search needs)

@@ -13,7 +13,7 @@ use Rattle.laws.proofs.Grid.{row-pos}
 use Rattle.lines.specs.Thresholds.{average, chromaQp}
 use Rattle.edges.specs.Inner.{InPlane}
 use Rattle.edges.specs.Levels.{chromaLevels, planOf, lumaBy, chromaBy}
-use Rattle.edges.specs.Macroblock.{Settings, lumaOn, chromaOn, lumaBoth, chromaBoth}
+use Rattle.edges.specs.Macroblock.{Settings, lumaOn, outerOr, lumaBoth, chromaBoth}
 use Rattle.edges.specs.Picture.{planes, Held, settingsAt, originOf, lumaOf, chromaOf, macroblockAt}
 use Rattle.edges.specs.declared.settings.Plan.{Plan}
 use Rattle.edges.proofs.RulesByThresholds.{luma-by, chroma-by}
@@ -39,7 +39,7 @@ module _ (g : Held) (x y : ℕ) where
       let qp = chromaQp (g .depth) offset in
       λ i.
       chromaBoth (by (average (qp (s .qpLeft)) (qp (s .qp))) (s .a) (s .b) i) (by (average (qp (s .qpAbove)) (qp (s .qp))) (s .a) (s .b) i) (by (qp (s .qp)) (s .a) (s .b) i)
-      (chromaOn (s .left) (s .inner)) (chromaOn (s .top) (s .inner)) (s .strengths) (originOf 8 (g .w) x y) (8 * g .w) p
+      (outerOr (s .left) (s .inner)) (outerOr (s .top) (s .inner)) (s .strengths) (originOf 8 (g .w) x y) (8 * g .w) p
 
   -- the three planes, by a plan that a call gave
   pub planned : (luma u v : Plane) {luma₁ u₁ v₁ : Plane} (q : Plan) → q ≡ planOf g x y → luma₁ ≡ lumaBy (g .depth) (s .strengths) (q .on) (q .luma) (q .levels .luma) luma

@@ -9,7 +9,7 @@ use Rattle.laws.specs.Places.{Plane}
 use Rattle.laws.proofs.Bools.{and-true}
 use Rattle.laws.proofs.Loop.{upTo-none, upTo-more}
 use Rattle.edges.specs.Edge.{LumaRule, ChromaRule, lumaEdge, chromaEdge}
-use Rattle.edges.specs.Macroblock.{after, lumaOn, chromaOn, lumaWay, chromaWay, lumaBoth, chromaBoth}
+use Rattle.edges.specs.Macroblock.{after, lumaOn, outerOr, lumaWay, chromaWay, lumaBoth, chromaBoth}
 
 after-sum : (f : ℕ → ℕ) (m n k : ℕ) → k ≡ m + n → after k f ≡ after n (after m f)
 after-sum f m n k e = λ i j. f (place j i)
@@ -46,7 +46,7 @@ module _ (f : ℕ → ℕ) (n origin along step : ℕ) where
   chromaIf on rule m q s = cond on (chromaEdge rule (after m f) (q - 2 * step) along step s) s
 
   pub chroma-two : (border inside : ChromaRule) (on inner : Bool) (s : Plane) {s1 s2 : Plane} → s1 ≡ chromaIf on border n origin s
-      → s2 ≡ chromaIf inner inside (n + 8) (origin + 4 * step) s1 → s2 ≡ chromaWay border inside (chromaOn on inner) (after n f) origin along step s
+      → s2 ≡ chromaIf inner inside (n + 8) (origin + 4 * step) s1 → s2 ≡ chromaWay border inside (outerOr on inner) (after n f) origin along step s
   unfolding chromaWay
   chroma-two border inside on inner s {s1} e0 e1 =
       upTo-more 1 _ s
@@ -59,7 +59,7 @@ module _ (f : ℕ → ℕ) (n origin along step : ℕ) where
   -- both chroma edges at once, where both are on
   pub chroma-pair-on : (border inside : ChromaRule) (on inner : Bool) (s : Plane) {s2 : Plane} → (on && inner) ≡ true → 2 * step ≤ origin
       → s2 ≡ chromaEdge inside (after (n + 8) f) (origin - 2 * step + 4 * step) along step (chromaEdge border (after n f) (origin - 2 * step) along step s)
-      → s2 ≡ chromaWay border inside (chromaOn on inner) (after n f) origin along step s
+      → s2 ≡ chromaWay border inside (outerOr on inner) (after n f) origin along step s
   chroma-pair-on border inside on inner s b h e =
       let q : origin - 2 * step + 4 * step ≡ origin + 4 * step - 2 * step = omega arith in
       let both = and-true on inner b in

@@ -6,7 +6,7 @@ use mathlib.Core.List.{List}
 use Prim.Native.Nat.{ℕ, _+_, _*_, _%_}
 use lib.Dec.{eqb, ltb}
 use lib.IntN.{pos}
-use Rattle.edges.specs.Macroblock.{after, outerOr, lumaOn, chromaOn}
+use Rattle.edges.specs.Macroblock.{after, outerOr, lumaOn}
 use Rattle.edges.specs.Picture.{entries, flagAt, beforeOf, heldBy, settingsAt}
 use Rattle.edges.specs.declared.Offsets.{Offsets}
 
@@ -31,6 +31,3 @@ module _ (w : ℕ) (strengths : ℕ → ℕ) (qps t8s : List ℕ) (o : Offsets) 
 
 pub plain-luma : (border t8 : Bool) (e : ℕ) → lumaOn border true t8 e ≡ outerOr border (cond (eqb (e % 2) 0) true (not t8)) e
 plain-luma border t8 e = refl
-
-pub plain-chroma : (border : Bool) (e : ℕ) → chromaOn border true e ≡ outerOr border true e
-plain-chroma border e = refl

@@ -12,7 +12,7 @@ use Rattle.batches.specs.declared.lanes.Four.{Four}
 use Rattle.batches.specs.declared.lanes.Thresholds.{Thresholds}
 use Rattle.batches.specs.Lines.{lumaWith, chromaWith}
 use Rattle.laws.specs.Places.{Plane}
-use Rattle.edges.specs.Macroblock.{Settings, lumaOn, chromaOn, lumaBoth, chromaBoth}
+use Rattle.edges.specs.Macroblock.{Settings, lumaOn, outerOr, lumaBoth, chromaBoth}
 use Rattle.edges.specs.Picture.{Held, settingsAt, originOf}
 use Rattle.edges.specs.declared.levels.PlaneLevels.{PlaneLevels}
 use Rattle.edges.specs.declared.levels.WayLevels.{WayLevels}
@@ -84,4 +84,4 @@ lumaBy d strengths on at m =
 abbrev pub chromaBy : Depth → (ℕ → ℕ) → Switches → Window → PlaneLevels → Plane → Plane
 chromaBy d strengths on at m =
     chromaBoth (chromaWith d (m .left)) (chromaWith d (m .top)) (chromaWith d (m .inner))
-    (chromaOn (on .left) (on .inner)) (chromaOn (on .top) (on .inner)) strengths (at .origin) (at .stride)
+    (outerOr (on .left) (on .inner)) (outerOr (on .top) (on .inner)) strengths (at .origin) (at .stride)

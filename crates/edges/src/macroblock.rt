@@ -8,7 +8,7 @@ ghost use Rattle.lines.specs.Depth.{eight};
 ghost use Rattle.batches.specs.Lines.{Straight, lumaWith, chromaWith};
 ghost use Rattle.edges.specs.Edge.{lumaEdge, chromaEdge};
 ghost use Rattle.edges.specs.Levels.{leftWay, topWay, lumaBy, chromaBy};
-ghost use Rattle.edges.specs.Macroblock.{after, lumaOn, chromaOn, lumaWay, chromaWay};
+ghost use Rattle.edges.specs.Macroblock.{after, lumaOn, outerOr, lumaWay, chromaWay};
 ghost use Rattle.edges.specs.Inner.{InPlane, allZero};
 ghost use Rattle.edges.specs.Picture.{entries};
 use crate::edge::chroma_edge;
@@ -105,8 +105,8 @@ fn chroma_way(
 )
     requires { ⌜ (on ≡ true → 2 * step ≤ origin) × (origin + 7 * along + 7 * step < length (now u)) × (origin + 7 * along + 7 * step < length (now v)) × (base + 16 ≤ length (now strengths)) ⌝ }
     requires { ⌜ Straight 8 along step ⌝ }
-    ensures { λ _. ⌜ now (u .exit) ≡ chromaWay (chromaWith eight («by_u» .border)) (chromaWith eight («by_u» .inside)) (chromaOn on inner) (after base (entries (now (strengths .entry)))) origin along step (now (u .entry)) ⌝ }
-    ensures { λ _. ⌜ now (v .exit) ≡ chromaWay (chromaWith eight («by_v» .border)) (chromaWith eight («by_v» .inside)) (chromaOn on inner) (after base (entries (now (strengths .entry)))) origin along step (now (v .entry)) ⌝ }
+    ensures { λ _. ⌜ now (u .exit) ≡ chromaWay (chromaWith eight («by_u» .border)) (chromaWith eight («by_u» .inside)) (outerOr on inner) (after base (entries (now (strengths .entry)))) origin along step (now (u .entry)) ⌝ }
+    ensures { λ _. ⌜ now (v .exit) ≡ chromaWay (chromaWith eight («by_v» .border)) (chromaWith eight («by_v» .inside)) (outerOr on inner) (after base (entries (now (strengths .entry)))) origin along step (now (v .entry)) ⌝ }
 {
     if on & inner {
         chroma_edges(

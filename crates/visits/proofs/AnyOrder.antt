@@ -11,7 +11,7 @@ use Rattle.laws.specs.Raster.{raster}
 use Rattle.laws.specs.Order.{Closed, Dep}
 use Rattle.laws.proofs.Raster.{raster-none, raster-all, insertion, closed-none}
 use Rattle.laws.proofs.Grid.{index-lt}
-use Rattle.visits.specs.Visit.{At, State, fresh, answer, serve, visit, run}
+use Rattle.visits.specs.Visit.{At, State, fresh, answer, serve, visit, run, itself}
 use Rattle.visits.specs.AnyOrder.{Demand3}
 use Rattle.visits.specs.Instance.{AsksPlace, Commutes}
 use Rattle.visits.specs.Beyond.{Bits, Beyond3}
@@ -75,7 +75,7 @@ module _
   at-run : (start : S) (rs : List At) → Inv start (run (visit W step early) rs (start, fresh W H))
   at-run start rs = inv-run start rs (start, fresh W H) (inv-start start)
 
-  pub any-order : Demand3 W H step early (visit W step early)
+  pub any-order : Demand3 W H step early itself (visit W step early)
   any-order start rs = record {
     own-mark = sets-own-mark W step early now;
     refused = refused-unchanged W step early now;
@@ -88,7 +88,7 @@ module _
       now : State S
       now = run (visit W step early) rs (start, fresh W H)
 
-  pub beyond : Beyond3 W H step early (visit W step early)
+  pub beyond : Beyond3 W H step early itself (visit W step early)
   beyond start rs = record {
     whole = λ all. v .planes ∙ raster-all step (W * H) (now .1) start (all→index W H (now .1) all);
     earlier = earlier-first W step early now;

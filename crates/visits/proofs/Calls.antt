@@ -1,14 +1,14 @@
 -- Calls that each keep the contract of a visit come to `run` and `answers`, so demand 3 holds of them; and
 -- the laws of a loop that makes them: its start, a turn, its end. Assumes nothing.
 use mathlib.Core.Path.{_≡_, refl, sym, ap, _∙_}
-use mathlib.Core.List.{List, [], _∷_, _++_, append-nil, zip, zipWith}
+use mathlib.Core.List.{List, [], _∷_, _++_, append-nil, map, zip, zipWith}
 use Prim.Native.Nat.{ℕ, zero, suc, _+_, _≤_, _<_}
 use native.Mathlib.Nat.{suc-inj, suc-ne-zero}
 use native.Mathlib.Numerals.{add-one}
 use native.Mathlib.Omega.{arith}
 use lib.ListN.{length, getD, set, take, drop, drop-of-length-le}
 use lib.Seq.{drop-cons, take-suc-set, append-snoc, take-all}
-use Rattle.visits.specs.Visit.{At, State, Call, fresh, visit, Outcome, run, answers}
+use Rattle.visits.specs.Visit.{At, State, Call, fresh, visit, VisitOutcomeOf, run, answers, itself}
 use Rattle.visits.specs.AnyOrder.{AnyOrder}
 use Rattle.visits.specs.Instance.{AsksPlace, Commutes}
 use Rattle.visits.specs.Calls.{Calls, none, more}
@@ -33,8 +33,8 @@ request-at (x ∷ xs) (y ∷ ys) zero e = refl
 request-at (x ∷ xs) (y ∷ ys) (suc k) e = request-at xs ys k (suc-inj e)
 
 module _ {W : ℕ} {S : Type 0} {step : ℕ → S → S} {early : State S → At → ℕ} where
-  pub calls-run : {s u : State S} {rs : List At} {ns : List ℕ} → Calls W step early s rs ns u
-      → (u ≡ run (visit W step early) rs s) × (ns ≡ answers (visit W step early) rs s)
+  pub calls-run : {A : Type 0} {number : A → ℕ} {s u : State S} {rs : List At} {said : List A} → Calls W step early number s rs said u
+      → (u ≡ run (visit W step early) rs s) × (map number said ≡ answers (visit W step early) rs s)
   calls-run none = (refl, refl)
   calls-run (more {rs = rs} o c) =
       let k = calls-run c in
@@ -43,7 +43,7 @@ module _ {W : ℕ} {S : Type 0} {step : ℕ → S → S} {early : State S → At
 
   -- ---- a loop over requests: a turn
   pub served-more : {rs : List At} {start : State S} {k : ℕ} {s t : State S} {out : List ℕ} {n : ℕ} → k < length rs → length out ≡ length rs
-      → Served (visit W step early) rs start k s out → Outcome W step early s (getD rs k (0, 0)) n t
+      → Served (visit W step early) rs start k s out → VisitOutcomeOf W step early s (getD rs k (0, 0)) n t
       → Served (visit W step early) rs start (k + 1) t (set out k n)
   served-more {rs} {start} {k} {s} {t} {out} {n} h l v o = rw add-one (record { state = ran ∙ v .state; said = spoke ∙ v .said })
     where
@@ -64,17 +64,17 @@ module _ {W : ℕ} {S : Type 0} {step : ℕ → S → S} {early : State S → At
 
   -- .. over a list of columns and a list of rows
   pub served-turn : (xs ys : List ℕ) {start : State S} {k : ℕ} {s t : State S} {out : List ℕ} {n : ℕ} → k < length xs → length xs ≡ length ys
-      → length out ≡ length xs → Served (visit W step early) (requests xs ys) start k s out → Outcome W step early s (getD xs k 0, getD ys k 0) n t
+      → length out ≡ length xs → Served (visit W step early) (requests xs ys) start k s out → VisitOutcomeOf W step early s (getD xs k 0, getD ys k 0) n t
       → Served (visit W step early) (requests xs ys) start (k + 1) t (set out k n)
   served-turn xs ys {k = k} h e l v o =
       let len = requests-length xs ys e in
       served-more (omega arith) (omega arith) v (rw (request-at xs ys k e) o)
 
 -- its start and its end, with any call
-pub served-none : {S : Type 0} {call : Call S} {rs : List At} {s : State S} {out : List ℕ} → Served call rs s 0 s out
+pub served-none : {A S : Type 0} {call : Call A S} {rs : List At} {s : State S} {out : List A} → Served call rs s 0 s out
 served-none = record { state = refl; said = refl }
 
-pub served-all : {S : Type 0} {call : Call S} {rs : List At} {start : State S} {k : ℕ} {s : State S} {out : List ℕ}
+pub served-all : {A S : Type 0} {call : Call A S} {rs : List At} {start : State S} {k : ℕ} {s : State S} {out : List A}
     → length rs ≤ k → length out ≡ length rs → Served call rs start k s out → (s ≡ run call rs start) × (out ≡ answers call rs start)
 served-all {rs = rs} {k = k} {out = out} h l v = (rw e at (v .state), rw (e, append-nil, take-all k out (omega arith)) at (v .said))
   where
@@ -83,7 +83,8 @@ served-all {rs = rs} {k = k} {out = out} h l v = (rw e at (v .state), rw (e, app
 
 -- ---- demand 3 over the contracts alone, and the numbers that the calls answered
 pub calls-any-order : (W H : ℕ) {S : Type 0} (step : ℕ → S → S) (early : State S → At → ℕ) → AsksPlace W H early → Commutes W step
-    → {start : S} {rs : List At} {ns : List ℕ} {now : State S} → Calls W step early (start, fresh W H) rs ns now
-    → AnyOrder W H step early (visit W step early) start now × (ns ≡ answers (visit W step early) rs (start, fresh W H))
+    → {A : Type 0} {number : A → ℕ} {start : S} {rs : List At} {said : List A} {now : State S} → Calls W step early number (start, fresh W H) rs said now
+    → AnyOrder W H step early itself (visit W step early) start now × (map number said ≡ answers (visit W step early) rs (start, fresh W H))
 calls-any-order W H step early inside swap {start = start} {rs = rs} c =
-    (rw (calls-run c .0) (any-order W H step early inside swap start rs), calls-run c .1)
+    let k = calls-run c in
+    (rw (k .0) (any-order W H step early inside swap start rs), k .1)

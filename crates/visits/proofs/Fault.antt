@@ -21,7 +21,7 @@ use Rattle.lines.specs.Planes.{lumaAt}
 use Rattle.edges.specs.Edge.{lumaRule, lumaEdge}
 use Rattle.edges.specs.Macroblock.{lumaWay, lumaBoth}
 use Rattle.edges.specs.Picture.{Planes, planes, lumaOf, flagAt, macroblockAt, stepOf}
-use Rattle.visits.specs.Visit.{State, run, answers}
+use Rattle.visits.specs.Visit.{State, run, answers, itself}
 use Rattle.visits.specs.AnyOrder.{Demand3}
 use Rattle.visits.specs.Old.{oldVisit, oldOrder, rasterOrder}
 use Rattle.visits.specs.Checks.{earlyOf, Sound, Fit}
@@ -92,7 +92,7 @@ module _ (u v : Plane) (lu : length u ≡ 256) (lv : length v ≡ 256) where
   raster-103 = ap (λ (s : State Planes). getD (s .0 .luma) 495 0) (raster-ends step (earlyOf faultLent) start raster-clear) ∙ samples .1
 
   -- so demand 3 does not hold of the old release
-  pub old-refuted-here : Demand3 2 2 step (earlyOf faultLent) (oldVisit 2 step (earlyOf faultLent)) → ⊥
+  pub old-refuted-here : Demand3 2 2 step (earlyOf faultLent) itself (oldVisit 2 step (earlyOf faultLent)) → ⊥
   old-refuted-here =
       old-refuted step (earlyOf faultLent) start old-clear
       (λ e. let k = sym (samples .0) ∙ ap (λ (p : Planes). getD (p .luma) 495 0) e ∙ samples .1 in omega arith)

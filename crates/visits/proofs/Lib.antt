@@ -1,5 +1,6 @@
 pub mod AnyOrder
 pub mod Beyond
+pub mod ByContract
 pub mod Calls
 pub mod Cases
 pub mod Clauses

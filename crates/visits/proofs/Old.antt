@@ -5,12 +5,12 @@ use mathlib.Core.List.{List, [], _∷_}
 use Prim.Native.Nat.{ℕ}
 use borrow.Author.Tests.{eq-eqb}
 use Rattle.laws.specs.Loop.{upTo}
-use Rattle.visits.specs.Visit.{At, State, Call, fresh, waiting, answer, visit, run, answers}
+use Rattle.visits.specs.Visit.{At, State, Call, fresh, waiting, answer, visit, run, answers, itself}
 use Rattle.visits.specs.AnyOrder.{AnyOrder, Demand3}
 use Rattle.visits.specs.Old.{oldWaiting, oldAnswer, oldVisit, oldOrder, rasterOrder}
 
-pub run-on : {S : Type 0} (call : Call S) (rs : List At) {s t : State S} {r : At} {n : ℕ} → call s r ≡ (n, t) → run call (r ∷ rs) s ≡ run call rs t
-run-on {S} call rs e = ap (λ (p : ℕ × State S). run call rs (p .1)) e
+pub run-on : {A S : Type 0} (call : Call A S) (rs : List At) {s t : State S} {r : At} {n : A} → call s r ≡ (n, t) → run call (r ∷ rs) s ≡ run call rs t
+run-on {A} {S} call rs e = ap (λ (p : A × State S). run call rs (p .1)) e
 
 module _ {S : Type 0} (step : ℕ → S → S) (early : State S → At → ℕ) (s : S) where
   -- no earlier check applies to the four visits
@@ -50,11 +50,11 @@ module _ {S : Type 0} (step : ℕ → S → S) (early : State S → At → ℕ) 
         ∙ run-on (oldVisit 2 step early) [] old-4
 
     -- so where the two orders differ, demand 3 does not hold of it
-    pub old-refuted : (step 3 (step 1 (step 2 (step 0 s))) ≡ step 3 (step 2 (step 1 (step 0 s))) → ⊥) → Demand3 2 2 step early (oldVisit 2 step early) → ⊥
+    pub old-refuted : (step 3 (step 1 (step 2 (step 0 s))) ≡ step 3 (step 2 (step 1 (step 0 s))) → ⊥) → Demand3 2 2 step early itself (oldVisit 2 step early) → ⊥
     unfolding upTo
     old-refuted differ d = differ (end .planes)
       where
-        end : AnyOrder 2 2 step early (oldVisit 2 step early) s (step 3 (step 1 (step 2 (step 0 s))), 1 ∷ 1 ∷ 1 ∷ 1 ∷ [])
+        end : AnyOrder 2 2 step early itself (oldVisit 2 step early) s (step 3 (step 1 (step 2 (step 0 s))), 1 ∷ 1 ∷ 1 ∷ 1 ∷ [])
         end = rw old-ends at (d s oldOrder)
 
     -- ours refuses the second visit: its upper right neighbour is unvisited

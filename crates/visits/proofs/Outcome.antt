@@ -8,7 +8,7 @@ use native.Mathlib.Omega.{arith}
 use borrow.Author.Tests.{eq-eqb, ne-eqb}
 use lib.Dec.{eqb, ltb, ltb→lt}
 use lib.ListN.{getD, set}
-use Rattle.visits.specs.Visit.{At, State, marked, waiting, answer, visit, Outcome}
+use Rattle.visits.specs.Visit.{At, State, marked, waiting, answer, visit, VisitOutcomeOf}
 use Rattle.laws.proofs.Bools.{and-parts, guarded}
 
 -- ---- the answer, by the first check that applies
@@ -31,25 +31,25 @@ module _ (W : ℕ) {S : Type 0} (early : State S → At → ℕ) (s : State S) (
 
 module _ {W : ℕ} {S : Type 0} {step : ℕ → S → S} {early : State S → At → ℕ} {s : State S} {r : At} where
   -- two outcomes that the promise allows are equal
-  pub one-outcome : {n m : ℕ} {t u : State S} → Outcome W step early s r n t → Outcome W step early s r m u → (n ≡ m) × (t ≡ u)
+  pub one-outcome : {n m : ℕ} {t u : State S} → VisitOutcomeOf W step early s r n t → VisitOutcomeOf W step early s r m u → (n ≡ m) × (t ≡ u)
   one-outcome a b = (a .number ∙ sym (b .number), λ i. ((a .planes ∙ sym (b .planes)) i, (a .marks ∙ sym (b .marks)) i))
 
   -- and `visit` is one that it allows
-  pub outcome-of-visit : Outcome W step early s r (visit W step early s r .0) (visit W step early s r .1)
+  pub outcome-of-visit : VisitOutcomeOf W step early s r (visit W step early s r .0) (visit W step early s r .1)
   unfolding visit
   outcome-of-visit = record { number = refl; planes = refl; marks = refl }
 
-  pub outcome-is-visit : {n : ℕ} {t : State S} → Outcome W step early s r n t → (n ≡ visit W step early s r .0) × (t ≡ visit W step early s r .1)
+  pub outcome-is-visit : {n : ℕ} {t : State S} → VisitOutcomeOf W step early s r n t → (n ≡ visit W step early s r .0) × (t ≡ visit W step early s r .1)
   outcome-is-visit a = one-outcome a outcome-of-visit
 
   -- the ways out: a refusal, and done
-  pub refused-outcome : {n : ℕ} → answer W early s r ≡ n → n ≢ 0 → Outcome W step early s r n s
+  pub refused-outcome : {n : ℕ} → answer W early s r ≡ n → n ≢ 0 → VisitOutcomeOf W step early s r n s
   refused-outcome e h =
       let k : eqb (answer W early s r) 0 ≡ false = ne-eqb (answer W early s r) 0 (λ l. h (sym e ∙ l)) in
       record { number = sym e; planes = rw k; marks = rw k }
 
   pub done-outcome : {p : S} {ms : List ℕ} → answer W early s r ≡ 0 → p ≡ step (r .1 * W + r .0) (s .0) → ms ≡ set (s .1) (r .1 * W + r .0) 1
-      → Outcome W step early s r 0 (p, ms)
+      → VisitOutcomeOf W step early s r 0 (p, ms)
   done-outcome e f g =
       let k : eqb (answer W early s r) 0 ≡ true = eq-eqb (answer W early s r) 0 e in
       record { number = sym e; planes = rw k f; marks = rw k g }

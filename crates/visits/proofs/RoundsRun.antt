@@ -15,7 +15,7 @@ use Rattle.laws.specs.Raster.{Marked}
 use Rattle.laws.specs.Order.{Ready, Dep}
 use Rattle.laws.proofs.Cond.{cond-both}
 use Rattle.laws.proofs.Places.{all-map}
-use Rattle.visits.specs.Visit.{At, State, Call, fresh, answer, visit, run}
+use Rattle.visits.specs.Visit.{At, State, Call, fresh, answer, visit, run, itself}
 use Rattle.visits.specs.Instance.{AsksPlace, Passes}
 use Rattle.visits.specs.Beyond.{Bits, Beyond3}
 use Rattle.visits.specs.Rounds.{Able, markAll, Allowed, Full, Schedule, over, next, placeOf, asRequests, roundsFor}
@@ -24,7 +24,7 @@ use Rattle.visits.proofs.Marks.{visited-stays, set-bits, fresh-bits}
 use Rattle.visits.proofs.Clauses.{already-exactly, done-where-ready, refused-unchanged, sets-own-mark}
 use Rattle.visits.proofs.Rounds.{rounds-proved, full→allowed}
 
-pub run-append : {S : Type 0} (call : Call S) (ps qs : List At) (s : State S) → run call (ps ++ qs) s ≡ run call qs (run call ps s)
+pub run-append : {A S : Type 0} (call : Call A S) (ps qs : List At) (s : State S) → run call (ps ++ qs) s ≡ run call qs (run call ps s)
 run-append call [] qs s = refl
 run-append call (p ∷ ps) qs s = run-append call ps qs (call s p .1)
 
@@ -105,7 +105,7 @@ module _
       ∙ schedule-run c (run (visit W step early) (map (placeOf W) is) s) (k .0) (k .1 ∙ ap (markAll is) e)
 
   -- the whole picture in W + 2 * (H - 1) rounds, H where W is 1
-  pub rounds-filter : Beyond3 W H step early (visit W step early) → {rounds : List (List ℕ)} {end : List ℕ} → Schedule (Full W H) (fresh W H) rounds end
+  pub rounds-filter : Beyond3 W H step early itself (visit W step early) → {rounds : List (List ℕ)} {end : List ℕ} → Schedule (Full W H) (fresh W H) rounds end
       → roundsFor W H ≤ length rounds → (start : S) → Valid start
       → run (visit W step early) (asRequests W rounds) (start, fresh W H) .0 ≡ upTo (W * H) step start
   rounds-filter E {rounds = rounds} c l start v =

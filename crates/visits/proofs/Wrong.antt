@@ -20,7 +20,7 @@ use Rattle.lines.specs.Planes.{lumaAt}
 use Rattle.edges.specs.Edge.{lumaRule, lumaEdge}
 use Rattle.edges.specs.Macroblock.{lumaWay, lumaBoth}
 use Rattle.edges.specs.Picture.{Planes, planes, lumaOf, flagAt, macroblockAt, stepOf}
-use Rattle.visits.specs.Visit.{At, State, fresh}
+use Rattle.visits.specs.Visit.{At, State, fresh, itself}
 use Rattle.visits.specs.AnyOrder.{Demand3}
 use Rattle.visits.specs.Old.{oldVisit}
 use Rattle.pictures.specs.Checks.{Lent, lent, heldOf}
@@ -34,9 +34,10 @@ use Rattle.visits.proofs.Refused as refused
 use Rattle.visits.proofs.Refused.{idleVisit, firstOnly, turnsAway, readyFirst, marksRefused}
 
 -- ---- always refuses: with valid data, on any picture
-pub always-refuses : (d : Lent) → Sound d → 0 < d .size .w → 0 < d .size .h → (start : Planes) → Fit d start → (number : State Planes → At → ℕ)
-    → ((t : State Planes) (r : At) → number t r ≢ 0) → Demand3 (d .size .w) (d .size .h) (stepOf (heldOf d)) (earlyOf d) (λ t r. (number t r, t)) → ⊥
-always-refuses d v w h start f =
+pub visit-always-refuses : (d : Lent) → Sound d → 0 < d .size .w → 0 < d .size .h → (start : Planes) → Fit d start
+    → {A : Type 0} (number : A → ℕ) (says : State Planes → At → A) → ((t : State Planes) (r : At) → number (says t r) ≢ 0)
+    → Demand3 (d .size .w) (d .size .h) (stepOf (heldOf d)) (earlyOf d) number (λ t r. (says t r, t)) → ⊥
+visit-always-refuses d v w h start f =
     refused.always-refuses (stepOf (heldOf d)) (earlyOf d) start (d .size .w) (d .size .h) w h
     (passes-valid d v (start, fresh (d .size .w) (d .size .h)) f (length-replicate (d .size .w * d .size .h) 0) (fresh-bits (d .size .w * d .size .h)) 0 0 w h)
 
@@ -66,13 +67,13 @@ unfolding band macroblockAt lumaOf flagAt upTo lumaRule lumaEdge lumaWay lumaBot
 pair-moves e = let k : _≡_ {A = ℕ} 101 100 = ap (λ (p : Planes). getD (p .luma) 15 0) e in omega arith
 
 -- filters on the first visit and afterwards only sets marks
-pub first-only : Demand3 2 1 pairStep (earlyOf pairLent) (firstOnly 2 pairStep (earlyOf pairLent)) → ⊥
+pub first-only : Demand3 2 1 pairStep (earlyOf pairLent) itself (firstOnly 2 pairStep (earlyOf pairLent)) → ⊥
 first-only =
     refused.first-only pairStep (earlyOf pairLent) pair (pair-clear pair pair-fit 0 0 0 tt (omega arith))
     (pair-clear (pairStep 0 pair) (fit-kept pairLent 0 pair pair-fit) 1 0 1 tt (omega arith)) pair-moves
 
 -- refuses a ready macroblock with another number
-pub turns-away : Demand3 2 1 pairStep (earlyOf pairLent) (turnsAway 2 pairStep (earlyOf pairLent)) → ⊥
+pub turns-away : Demand3 2 1 pairStep (earlyOf pairLent) itself (turnsAway 2 pairStep (earlyOf pairLent)) → ⊥
 turns-away =
     refused.turns-away pairStep (earlyOf pairLent) pair (pair-clear pair pair-fit 0 0 0 tt (omega arith))
     (pair-clear (pairStep 0 pair) (fit-kept pairLent 0 pair pair-fit) 1 0 1 tt (omega arith))
@@ -82,7 +83,7 @@ pub ready-first : (t : State Planes) → VisitOutcome pairLent (pair, 0 ∷ 1 �
 ready-first = refused.ready-first pairStep (earlyOf pairLent) pair (pair-clear pair pair-fit 0 1 1 tt (omega arith))
 
 -- sets its mark though it refuses
-pub marks-refused : Demand3 2 1 pairStep (earlyOf pairLent) (marksRefused 2 pairStep (earlyOf pairLent)) → ⊥
+pub marks-refused : Demand3 2 1 pairStep (earlyOf pairLent) itself (marksRefused 2 pairStep (earlyOf pairLent)) → ⊥
 marks-refused = refused.marks-refused pairStep (earlyOf pairLent) pair (pair-clear pair pair-fit 0 0 1 tt (omega arith))
 
 -- ---- one macroblock, with strength 1 on its second vertical edge
@@ -107,7 +108,7 @@ unfolding band macroblockAt lumaOf flagAt upTo lumaRule lumaEdge lumaWay lumaBot
 one-moves e = let k : _≡_ {A = ℕ} 101 100 = ap (λ (p : Planes). getD (p .luma) 3 0) e in omega arith
 
 -- leaves the planes untouched
-pub planes-untouched : Demand3 1 1 (stepOf (heldOf oneLent)) (earlyOf oneLent) (idleVisit 1 (stepOf (heldOf oneLent)) (earlyOf oneLent)) → ⊥
+pub planes-untouched : Demand3 1 1 (stepOf (heldOf oneLent)) (earlyOf oneLent) itself (idleVisit 1 (stepOf (heldOf oneLent)) (earlyOf oneLent)) → ⊥
 planes-untouched =
     refused.planes-untouched (stepOf (heldOf oneLent)) (earlyOf oneLent) one
     (passes-valid oneLent one-sound (one, 0 ∷ []) one-fit refl (at-most 1 (0 ∷ []) tt) 0 0 (omega arith) (omega arith)) one-moves
@@ -115,5 +116,5 @@ planes-untouched =
 -- ---- readiness without the upper right neighbour, on the picture of Fault.antt: already the answer to its
 -- second visit is wrong
 pub without-upper-right : (u v : Plane) → length u ≡ 256 → length v ≡ 256
-    → Demand3 2 2 (stepOf (heldOf faultLent)) (earlyOf faultLent) (oldVisit 2 (stepOf (heldOf faultLent)) (earlyOf faultLent)) → ⊥
+    → Demand3 2 2 (stepOf (heldOf faultLent)) (earlyOf faultLent) itself (oldVisit 2 (stepOf (heldOf faultLent)) (earlyOf faultLent)) → ⊥
 without-upper-right u v lu lv = refused.without-upper-right (fault.step u v lu lv) (earlyOf faultLent) (fault.start u v lu lv) (fault.old-clear u v lu lv)

@@ -37,18 +37,18 @@ pub record Free (W H : ℕ) (ms : List ℕ) : Type 0 where
   pub unvisited : Unvisited W ms x y
   pub ready : Waits W H ms x y → ⊥
 
--- W by H macroblocks; `step i` filters macroblock i, and `early` has the number of the first check before 13
--- that applies, 0 where none does
-module _ (W H : ℕ) {S : Type 0} (step : ℕ → S → S) (early : State S → At → ℕ) (call : Call S) where
+-- W by H macroblocks; `step i` filters macroblock i, `early` has the number of the first check before 13 that
+-- applies, 0 where none does, and `number` is the one that an answer holds
+module _ (W H : ℕ) {A S : Type 0} (step : ℕ → S → S) (early : State S → At → ℕ) (number : A → ℕ) (call : Call A S) where
   pub record AnyOrder (start : S) (now : State S) : Type 0 where
     -- what "visited" means: a visit that answers 0 sets its own mark, and a refused one changes nothing
-    pub own-mark : (x y : ℕ) → call now (x, y) .0 ≡ 0 → call now (x, y) .1 .1 ≡ set (now .1) (y * W + x) 1
-    pub refused : (r : At) → call now r .0 ≢ 0 → call now r .1 ≡ now
+    pub own-mark : (x y : ℕ) → number (call now (x, y) .0) ≡ 0 → call now (x, y) .1 .1 ≡ set (now .1) (y * W + x) 1
+    pub refused : (r : At) → number (call now r .0) ≢ 0 → call now r .1 ≡ now
     -- "A visit that passes all earlier checks is refused as not ready exactly when an existing left, upper or
     -- upper right neighbour is unvisited", and else done; that it was visited already is one of the earlier
     -- checks
-    pub not-ready : (x y : ℕ) → early now (x, y) ≡ 0 → Unvisited W (now .1) x y → (call now (x, y) .0 ≡ 14) ↔ Waits W H (now .1) x y
-    pub done : (x y : ℕ) → early now (x, y) ≡ 0 → Unvisited W (now .1) x y → (Waits W H (now .1) x y → ⊥) → call now (x, y) .0 ≡ 0
+    pub not-ready : (x y : ℕ) → early now (x, y) ≡ 0 → Unvisited W (now .1) x y → (number (call now (x, y) .0) ≡ 14) ↔ Waits W H (now .1) x y
+    pub done : (x y : ℕ) → early now (x, y) ≡ 0 → Unvisited W (now .1) x y → (Waits W H (now .1) x y → ⊥) → number (call now (x, y) .0) ≡ 0
     -- "After each call the planes hold what demand 2's rules give for just the visited macroblocks in raster
     -- order"
     pub planes : now .0 ≡ raster step (W * H) (now .1) start

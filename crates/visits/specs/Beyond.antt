@@ -13,13 +13,13 @@ use Rattle.visits.specs.Visit.{At, State, Call, fresh, run}
 abbrev pub Bits : List ℕ → Type 0
 Bits ms = (i : ℕ) → getD ms i 0 ≤ 1
 
-module _ (W H : ℕ) {S : Type 0} (step : ℕ → S → S) (early : State S → At → ℕ) (call : Call S) where
+module _ (W H : ℕ) {A S : Type 0} (step : ℕ → S → S) (early : State S → At → ℕ) (number : A → ℕ) (call : Call A S) where
   pub record Beyond (start : S) (now : State S) : Type 0 where
     -- with all of them visited the planes hold the whole picture
     pub whole : AllVisited W H (now .1) → now .0 ≡ upTo (W * H) step start
     -- the checks before 13, and 13
-    pub earlier : (r : At) → early now r ≢ 0 → call now r .0 ≡ early now r
-    pub already : (x y : ℕ) → early now (x, y) ≡ 0 → (call now (x, y) .0 ≡ 13) ↔ Visited W (now .1) x y
+    pub earlier : (r : At) → early now r ≢ 0 → number (call now r .0) ≡ early now r
+    pub already : (x y : ℕ) → early now (x, y) ≡ 0 → (number (call now (x, y) .0) ≡ 13) ↔ Visited W (now .1) x y
     -- a mark for each macroblock, 0 or 1, and none is taken back
     pub size : length (now .1) ≡ W * H
     pub bits : Bits (now .1)

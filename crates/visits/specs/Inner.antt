@@ -21,6 +21,6 @@ pub record Replayed (d : Lent) (xs ys : List ℕ) (s : State Planes) (t : State 
 
 -- k of the requests rs have been made and the answers stand in out: what is left leads from now where all led
 -- from start
-pub record Served {S : Type 0} (call : Call S) (rs : List At) (start : State S) (k : ℕ) (now : State S) (out : List ℕ) : Type 0 where
+pub record Served {A S : Type 0} (call : Call A S) (rs : List At) (start : State S) (k : ℕ) (now : State S) (out : List A) : Type 0 where
   pub state : run call (drop k rs) now ≡ run call rs start
   pub said : take k out ++ answers call (drop k rs) now ≡ answers call rs start

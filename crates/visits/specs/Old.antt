@@ -12,7 +12,7 @@ oldWaiting W ms x y = lacksLeft W ms x y || lacksUpper W ms x y
 unfoldable pub oldAnswer : ℕ → {S : Type 0} → (State S → At → ℕ) → State S → At → ℕ
 oldAnswer W early s r = orElse (early s r) (cond (marked W (s .1) (r .0) (r .1)) 13 (cond (oldWaiting W (s .1) (r .0) (r .1)) 14 0))
 
-unfoldable pub oldVisit : ℕ → {S : Type 0} → (ℕ → S → S) → (State S → At → ℕ) → Call S
+unfoldable pub oldVisit : ℕ → {S : Type 0} → (ℕ → S → S) → (State S → At → ℕ) → Call ℕ S
 oldVisit W step early s r = (oldAnswer W early s r, serve W step (oldAnswer W early s r) s r)
 
 -- an order that it allows on a picture of 2 by 2: the lower left macroblock before the upper right one, whose

@@ -7,12 +7,12 @@ use mathlib.Core.List.{List, zip}
 use lib.Dec.{eqb}
 use lib.ListN.{length}
 use Rattle.edges.specs.Picture.{Planes, stepOf}
-use Rattle.visits.specs.Visit.{At, State, Call, Outcome, fresh, visit, run, answers}
+use Rattle.visits.specs.Visit.{At, State, Call, VisitOutcomeOf, fresh, visit, run, answers}
 use Rattle.pictures.specs.Checks.{Lent, heldOf}
 use Rattle.visits.specs.Checks.{earlyOf}
 
 -- the visit of the theory, with the filter of demand 2 and the checks of document 01
-abbrev pub visitOf : Lent → Call Planes
+abbrev pub visitOf : Lent → Call ℕ Planes
 visitOf d = visit (d .size .w) (stepOf (heldOf d)) (earlyOf d)
 
 -- a picture with nothing visited
@@ -21,7 +21,7 @@ unvisited d start = (start, fresh (d .size .w) (d .size .h))
 
 -- the answer n and the state t that a visit of r in the state s comes to
 abbrev pub VisitOutcome : Lent → State Planes → At → ℕ → State Planes → Type 0
-VisitOutcome d = Outcome (d .size .w) (stepOf (heldOf d)) (earlyOf d)
+VisitOutcome d = VisitOutcomeOf (d .size .w) (stepOf (heldOf d)) (earlyOf d)
 
 -- ---- replay: columns xs and rows ys, and room `out` for the answers
 abbrev pub requests : List ℕ → List ℕ → List At

@@ -41,9 +41,14 @@ waiting W ms x y = lacksLeft W ms x y || lacksUpper W ms x y || lacksUpperRight 
 abbrev pub orElse : ℕ → ℕ → ℕ
 orElse n later = cond (eqb n 0) later n
 
--- a visit as anyone may write it: from the state and the request its answer, and the state afterwards
-abbrev pub Call : Type 0 → Type 0
-Call S = State S → At → ℕ × State S
+-- a visit as anyone may write it: from the state and the request its answer, and the state afterwards. An
+-- answer, of whatever kind A, holds a number: 0, or that of the check by which the visit is refused
+abbrev pub Call : Type 0 → Type 0 → Type 0
+Call A S = State S → At → A × State S
+
+-- an answer that is its number
+abbrev pub itself : ℕ → ℕ
+itself n = n
 
 -- early: the number of the first check before 13 that applies, 0 where none does
 unfoldable pub answer : ℕ → {S : Type 0} → (State S → At → ℕ) → State S → At → ℕ
@@ -54,21 +59,21 @@ abbrev pub serve : ℕ → {S : Type 0} → (ℕ → S → S) → ℕ → State 
 serve W step n s r = cond (eqb n 0) (step (r .1 * W + r .0) (s .0), set (s .1) (r .1 * W + r .0) 1) s
 
 module _ (W : ℕ) {S : Type 0} (step : ℕ → S → S) (early : State S → At → ℕ) where
-  unfoldable pub visit : Call S
+  unfoldable pub visit : Call ℕ S
   visit s r = (answer W early s r, serve W step (answer W early s r) s r)
 
   -- what the contract of one visit says of its answer n and of the state t afterwards
-  pub record Outcome (s : State S) (r : At) (n : ℕ) (t : State S) : Type 0 where
+  pub record VisitOutcomeOf (s : State S) (r : At) (n : ℕ) (t : State S) : Type 0 where
     pub number : n ≡ answer W early s r
     pub planes : t .0 ≡ serve W step (answer W early s r) s r .0
     pub marks : t .1 ≡ serve W step (answer W early s r) s r .1
 
 -- any list of requests, one after the other: the state at the end, and the answers
-module _ {S : Type 0} (call : Call S) where
+module _ {A S : Type 0} (call : Call A S) where
   abbrev pub run : List At → State S → State S
   run [] s = s
   run (r ∷ rs) s = run rs (call s r .1)
 
-  abbrev pub answers : List At → State S → List ℕ
+  abbrev pub answers : List At → State S → List A
   answers [] s = []
   answers (r ∷ rs) s = call s r .0 ∷ answers rs (call s r .1)

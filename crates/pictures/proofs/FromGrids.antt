@@ -1,5 +1,5 @@
--- From the grids to the picture: strengths that the flagless call writes for every macroblock make the whole-picture
--- call give the standard's picture straight from the grids. Assumes nothing.
+-- From the grids to the picture: strengths that the flagless call writes for every macroblock make the
+-- whole-picture call give the standard's picture straight from the grids. Assumes nothing.
 use mathlib.Core.Path.{_≡_, refl, sym, ap, _∙_}
 use mathlib.Core.Bool.{Bool, true, false, cond}
 use mathlib.Core.List.{List, [], _∷_}

@@ -43,8 +43,8 @@ badOffset o = ltZ o (negsuc 11) || ltZ (pos 12) o
 abbrev pub badOffsets : Offsets → Bool
 badOffsets o = badOffset (o .a) || badOffset (o .b) || badOffset (o .chroma)
 
--- 7, 8, 9: values that are no flag, no QP, no strength. QPs are lent as bytes, and at eight bits the lowest is
--- 0: none is too low
+-- 7, 8, 9: values that are no flag, no QP, no strength. QPs are lent as bytes, and at eight bits the lowest
+-- is 0: none is too low
 abbrev pub badFlag : ℕ → Bool
 badFlag f = ltb 1 f
 
@@ -65,8 +65,8 @@ someBadFlag a b t8s = not (eqb (length t8s) 0) && someBad badFlag a b t8s
 abbrev pub someBadStrength : ℕ → ℕ → List ℕ → Bool
 someBadStrength a b strengths = someBad badStrength (32 * a) (32 * b) strengths
 
--- ---- the checks, in three parts: each may be made once those before it have passed. `outside`: what the call
--- asks for lies outside the picture
+-- ---- the checks, in three parts: each may be made once those before it have passed. `outside`: what the
+-- call asks for lies outside the picture
 abbrev pub pictureChecks : Size → Bool → ℕ → ℕ → ℕ → List (ℕ × Bool)
 pictureChecks size outside luma u v =
     (1, badSize size)

@@ -29,14 +29,14 @@ module _
     (swap : Commutes W step) where
   -- what each visit keeps
   pub record Inv (start : S) (s : State S) : Type 0 where
-    pub size : length (s .1) ≡ W * H
+    pub full : length (s .1) ≡ W * H
     pub bits : Bits (s .1)
     pub closed : Closed (Dep W) (W * H) (s .1)
     pub planes : s .0 ≡ raster step (W * H) (s .1) start
 
   pub inv-start : (start : S) → Inv start (start, fresh W H)
   inv-start start = record {
-    size = length-replicate (W * H) 0;
+    full = length-replicate (W * H) 0;
     bits = fresh-bits (W * H);
     closed = closed-none (Dep W) (W * H) (fresh W H) (fresh-none (W * H));
     planes = sym (raster-none step (W * H) (fresh W H) start (fresh-none (W * H)));
@@ -58,10 +58,10 @@ module _
       go n (waits e u w l) = back n (omega arith)
       go n (free e u f l) =
           let b = inside s r e in
-          let i = insertion step (Dep W) swap (W * H) (s .1) m start (v .size) (index-lt W H (r .0) (r .1) (b .0) (b .1)) (v .closed) u
+          let i = insertion step (Dep W) swap (W * H) (s .1) m start (v .full) (index-lt W H (r .0) (r .1) (b .0) (b .1)) (v .closed) u
           (free→ready W H (s .1) (r .0) (r .1) (b .0) (b .1) f) in
           rw (eq-eqb n 0 l) (record {
-            size = length-set (s .1) m 1 ∙ v .size;
+            full = length-set (s .1) m 1 ∙ v .full;
             bits = set-bits (s .1) m (v .bits);
             closed = i .1;
             planes = ap (step m) (v .planes) ∙ i .0;
@@ -93,7 +93,7 @@ module _
     whole = λ all. v .planes ∙ raster-all step (W * H) (now .1) start (all→index W H (now .1) all);
     earlier = earlier-first W step early now;
     already = already-exactly W H step early inside now;
-    size = v .size;
+    full = v .full;
     bits = v .bits;
     kept = λ r i. marks-kept W step early now r (v .bits) i;
   }

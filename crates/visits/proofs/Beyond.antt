@@ -13,10 +13,10 @@ use Rattle.visits.specs.Rounds.{Full, Schedule, asRequests, roundsFor}
 use Rattle.pictures.specs.Checks.{Lent, heldOf}
 use Rattle.visits.specs.Checks.{earlyOf, Sound, Fit}
 use Rattle.visits.specs.Promise.{visitOf, unvisited}
-use Rattle.visits.proofs.Clauses.{passed}
+use Rattle.visits.proofs.Clauses.{done-tells}
 use Rattle.visits.proofs.Commute as commute
 use Rattle.visits.proofs.RoundsRun as rounds
-use Rattle.visits.proofs.RoundsRun.{good-visit}
+use Rattle.visits.proofs.RoundsRun.{valid-visit}
 use Rattle.visits.proofs.Instance.{asks-place, commutes, fit-kept, passes-valid}
 use Rattle.visits.proofs.Demand3.{beyond-3}
 
@@ -37,9 +37,9 @@ module _ (d : Lent) (wide : 0 < d .size .w) (v : Sound d) where
       (clear q r zr) .0
     where
       clear : (a c : At) → visitOf d s c .0 ≡ 0 → earlyOf d (visitOf d s a .1) c ≡ 0
-      clear a c size =
+      clear a c z =
           let g =
-          good-visit (d .size .w) (d .size .h) (stepOf (heldOf d)) (earlyOf d) (asks-place d) (Fit d) (fit-kept d) (passes-valid d v) s a
-          (record { valid = f; size = l; bits = b }) in
-          let p = passed (d .size .w) (d .size .h) (stepOf (heldOf d)) (earlyOf d) (asks-place d) s c size in
-          passes-valid d v (visitOf d s a .1) (g .valid) (g .size) (g .bits) (c .0) (c .1) (p .column) (p .row)
+          valid-visit (d .size .w) (d .size .h) (stepOf (heldOf d)) (earlyOf d) (asks-place d) (Fit d) (fit-kept d) (passes-valid d v) s a
+          (record { valid = f; full = l; bits = b }) in
+          let p = done-tells (d .size .w) (d .size .h) (stepOf (heldOf d)) (earlyOf d) (asks-place d) s c z in
+          passes-valid d v (visitOf d s a .1) (g .valid) (g .full) (g .bits) (c .0) (c .1) (p .column) (p .row)

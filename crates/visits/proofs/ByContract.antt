@@ -35,7 +35,7 @@ module _ (W H : ℕ) {A S : Type 0} (step : ℕ → S → S) (early : State S �
     whole = b .whole;
     earlier = b .earlier;
     already = b .already;
-    size = b .size;
+    full = b .full;
     bits = b .bits;
     kept = b .kept;
   }

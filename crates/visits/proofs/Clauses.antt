@@ -91,7 +91,7 @@ module _
         go n (free d m g l) = l
 
   -- what the answer 0 tells
-  pub record Passed (s : State S) (r : At) : Type 0 where
+  pub record Done (s : State S) (r : At) : Type 0 where
     pub early-passed : early s r ≡ 0
     pub column : r .0 < W
     pub row : r .1 < H
@@ -99,11 +99,11 @@ module _
     pub ready : Waits W H (s .1) (r .0) (r .1) → ⊥
     pub after : visit W step early s r .1 ≡ (step (r .1 * W + r .0) (s .0), set (s .1) (r .1 * W + r .0) 1)
 
-  pub passed : (s : State S) (r : At) → visit W step early s r .0 ≡ 0 → Passed s r
+  pub done-tells : (s : State S) (r : At) → visit W step early s r .0 ≡ 0 → Done s r
   unfolding visit
-  passed s r size = go (answer W early s r) size (verdict W H early inside s r)
+  done-tells s r z = go (answer W early s r) z (verdict W H early inside s r)
     where
-      go : (n : ℕ) → n ≡ 0 → Verdict W H early s r n → Passed s r
+      go : (n : ℕ) → n ≡ 0 → Verdict W H early s r n → Done s r
       go n k (earlier d l) = absurd (d (sym l ∙ k))
       go n k (already d m l) = absurd (omega arith)
       go n k (waits d m w l) = absurd (omega arith)
@@ -113,5 +113,5 @@ module _
         row = inside s r d .1;
         unvisited = m;
         ready = f;
-        after = rw (eq-eqb (answer W early s r) 0 size);
+        after = rw (eq-eqb (answer W early s r) 0 z);
       }

@@ -14,7 +14,7 @@ use Rattle.visits.specs.Visit.{At, State, visit, run, answers}
 use Rattle.visits.specs.Instance.{AsksPlace, Commutes}
 use Rattle.visits.proofs.Neighbours.{free→ready}
 use Rattle.visits.proofs.Marks.{still-free}
-use Rattle.visits.proofs.Clauses.{Passed, passed, done-where-ready}
+use Rattle.visits.proofs.Clauses.{Done, done-tells, done-where-ready}
 
 -- steps that are both ready and not yet made commute: neither waits for the other
 pub ready-steps-commute : {S : Type 0} (step : ℕ → S → S) (Dep : ℕ → ℕ → Type 0)
@@ -43,8 +43,8 @@ module _
   pub ready-stays : (s : State S) (r q : At) → r ≢ q → visit W step early s r .0 ≡ 0 → visit W step early s q .0 ≡ 0
       → early (visit W step early s r .1) q ≡ 0 → visit W step early (visit W step early s r .1) q .0 ≡ 0
   ready-stays s r q d zr zq e =
-      let pr = passed W H step early inside s r zr in
-      let pq = passed W H step early inside s q zq in
+      let pr = done-tells W H step early inside s r zr in
+      let pq = done-tells W H step early inside s q zq in
       let i = r .1 * W + r .0 in
       done-where-ready W H step early inside (visit W step early s r .1) (q .0) (q .1) e
       (rw (pr .after) (λ k. pq .unvisited (sym (getD-set-other (s .1) i (q .1 * W + q .0) 1 0 (λ h. d (same-place r q (pr .column) (pq .column) (sym h)))) ∙ k)))
@@ -68,11 +68,11 @@ module _
       b : ℕ
       b = q .1 * W + q .0
 
-      pr : Passed W H step early inside s r
-      pr = passed W H step early inside s r zr
+      pr : Done W H step early inside s r
+      pr = done-tells W H step early inside s r zr
 
-      pq : Passed W H step early inside s q
-      pq = passed W H step early inside s q zq
+      pq : Done W H step early inside s q
+      pq = done-tells W H step early inside s q zq
 
       zq′ : visit W step early (visit W step early s r .1) q .0 ≡ 0
       zq′ = ready-stays s r q d zr zq er
@@ -81,10 +81,10 @@ module _
       zr′ = ready-stays s q r (λ e. d (sym e)) zq zr eq
 
       rq : visit W step early (visit W step early s r .1) q .1 ≡ (step b (step a (s .0)), set (set (s .1) a 1) b 1)
-      rq = passed W H step early inside (visit W step early s r .1) q zq′ .after ∙ rw (pr .after)
+      rq = done-tells W H step early inside (visit W step early s r .1) q zq′ .after ∙ rw (pr .after)
 
       qr : visit W step early (visit W step early s q .1) r .1 ≡ (step a (step b (s .0)), set (set (s .1) b 1) a 1)
-      qr = passed W H step early inside (visit W step early s q .1) r zr′ .after ∙ rw (pq .after)
+      qr = done-tells W H step early inside (visit W step early s q .1) r zr′ .after ∙ rw (pq .after)
 
       apart : a ≢ b
       apart e = d (same-place r q (pr .column) (pq .column) e)

@@ -53,8 +53,8 @@ module _ (d : Lent) (wide : 0 < d .size .w) where
   pub of-replay : {start : Planes} {ms xs ys out out′ : List ℕ} {n : ℕ} {now : State Planes} → length ms ≡ d .size .w * d .size .h
       → ((i : ℕ) → i < d .size .w * d .size .h → getD ms i 0 ≡ 0) → ReplayOutcome d xs ys (start, ms) out n now out′
       → AnyOrder (d .size .w) (d .size .h) (stepOf (heldOf d)) (earlyOf d) itself (visitOf d) start now
-  of-replay {start} {ms} {xs} {ys} {out} l size r =
-      rw (r .leaves, zeros-are-fresh (d .size .w) (d .size .h) ms l size)
+  of-replay {start} {ms} {xs} {ys} {out} l zeros r =
+      rw (r .leaves, zeros-are-fresh (d .size .w) (d .size .h) ms l zeros)
       (cond-both (AnyOrder (d .size .w) (d .size .h) (stepOf (heldOf d)) (earlyOf d) itself (visitOf d) start) (uneven xs ys out) (demand-3 start [])
       (demand-3 start (requests xs ys)))
 

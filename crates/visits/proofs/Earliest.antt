@@ -30,8 +30,8 @@ unfolding roundsFor
 broad-all W H h = rw (ne-eqb W 1 h)
 
 -- the last macroblock has the last round
-pub within : (W H x y : ℕ) → x < W → y < H → earliest W x y < roundsFor W H
-within W H x y hx hy = go (ℕ-discrete W 1)
+pub earliest-within : (W H x y : ℕ) → x < W → y < H → earliest W x y < roundsFor W H
+earliest-within W H x y hx hy = go (ℕ-discrete W 1)
   where
     go : Dec (W ≡ 1) → earliest W x y < roundsFor W H
     go (yes e) = omega (arith, narrow W x y e, narrow-all W H e)

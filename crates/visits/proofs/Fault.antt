@@ -34,24 +34,24 @@ fault-sound : Sound faultLent
 fault-sound = record { sides = refl; lengths = refl; range = refl; flag = none-over 1 [] tt; qp = none-over 51 (40 ∷ 40 ∷ 40 ∷ 40 ∷ []) tt; strength = none-over 4 faultStrengths tt }
 
 module _ (u v : Plane) (lu : length u ≡ 256) (lv : length v ≡ 256) where
-  abbrev pub start : Planes
-  start = planes faultLuma u v
+  abbrev pub faultStart : Planes
+  faultStart = planes faultLuma u v
 
-  abbrev pub step : ℕ → Planes → Planes
-  step = stepOf faultHeld
+  abbrev pub faultStep : ℕ → Planes → Planes
+  faultStep = stepOf faultHeld
 
   -- ---- sample (15, 15) of luma
-  samples : (getD (step 3 (step 1 (step 2 (step 0 start))) .luma) 495 0 ≡ 102) × (getD (step 3 (step 2 (step 1 (step 0 start))) .luma) 495 0 ≡ 103)
+  samples : (getD (faultStep 3 (faultStep 1 (faultStep 2 (faultStep 0 faultStart))) .luma) 495 0 ≡ 102) × (getD (faultStep 3 (faultStep 2 (faultStep 1 (faultStep 0 faultStart))) .luma) 495 0 ≡ 103)
   unfolding band faultLuma macroblockAt lumaOf flagAt upTo lumaRule lumaEdge lumaWay lumaBoth lumaAt lumaLine normalLine lumaNormal nudgeOf innerOf deltaOf clip3 clip1 average indexOf alphas betas tc0s
   samples = (refl, refl)
 
   -- ---- no earlier check applies to any visit inside the picture
-  fit : Fit faultLent start
+  fit : Fit faultLent faultStart
   unfolding band faultLuma
   fit = record { luma = refl; u = lu; v = lv }
 
-  fit-0 : Fit faultLent (step 0 start)
-  fit-0 = fit-kept faultLent 0 start fit
+  fit-0 : Fit faultLent (faultStep 0 faultStart)
+  fit-0 = fit-kept faultLent 0 faultStart fit
 
   clear : (p : Planes) → Fit faultLent p → (ms : List ℕ) → length ms ≡ 4 → T (bounded 1 ms) → (x y : ℕ) → T (bounded 1 (x ∷ y ∷ []))
       → earlyOf faultLent (p, ms) (x, y) ≡ 0
@@ -60,39 +60,39 @@ module _ (u v : Plane) (lu : length u ≡ 256) (lv : length v ≡ 256) where
       let m = and-parts (leb y 1) true (k .1) in
       passes-valid faultLent fault-sound (p, ms) f l (at-most 1 ms b) x y (omega (arith, leb→le x 1 (k .0))) (omega (arith, leb→le y 1 (m .0)))
 
-  pub old-clear : OldClear step (earlyOf faultLent) start
+  pub old-clear : OldClear faultStep (earlyOf faultLent) faultStart
   old-clear =
-      let f = fit-kept faultLent 2 (step 0 start) fit-0 in
+      let f = fit-kept faultLent 2 (faultStep 0 faultStart) fit-0 in
       record {
-        first = clear start fit (0 ∷ 0 ∷ 0 ∷ 0 ∷ []) refl tt 0 0 tt;
-        second = clear (step 0 start) fit-0 (1 ∷ 0 ∷ 0 ∷ 0 ∷ []) refl tt 0 1 tt;
-        third = clear (step 2 (step 0 start)) f (1 ∷ 0 ∷ 1 ∷ 0 ∷ []) refl tt 1 0 tt;
-        fourth = clear (step 1 (step 2 (step 0 start))) (fit-kept faultLent 1 _ f) (1 ∷ 1 ∷ 1 ∷ 0 ∷ []) refl tt 1 1 tt;
+        first = clear faultStart fit (0 ∷ 0 ∷ 0 ∷ 0 ∷ []) refl tt 0 0 tt;
+        second = clear (faultStep 0 faultStart) fit-0 (1 ∷ 0 ∷ 0 ∷ 0 ∷ []) refl tt 0 1 tt;
+        third = clear (faultStep 2 (faultStep 0 faultStart)) f (1 ∷ 0 ∷ 1 ∷ 0 ∷ []) refl tt 1 0 tt;
+        fourth = clear (faultStep 1 (faultStep 2 (faultStep 0 faultStart))) (fit-kept faultLent 1 _ f) (1 ∷ 1 ∷ 1 ∷ 0 ∷ []) refl tt 1 1 tt;
       }
 
-  raster-clear : RasterClear step (earlyOf faultLent) start
+  raster-clear : RasterClear faultStep (earlyOf faultLent) faultStart
   raster-clear =
-      let f = fit-kept faultLent 1 (step 0 start) fit-0 in
+      let f = fit-kept faultLent 1 (faultStep 0 faultStart) fit-0 in
       record {
-        first = clear start fit (0 ∷ 0 ∷ 0 ∷ 0 ∷ []) refl tt 0 0 tt;
-        second = clear (step 0 start) fit-0 (1 ∷ 0 ∷ 0 ∷ 0 ∷ []) refl tt 1 0 tt;
-        third = clear (step 1 (step 0 start)) f (1 ∷ 1 ∷ 0 ∷ 0 ∷ []) refl tt 0 1 tt;
-        fourth = clear (step 2 (step 1 (step 0 start))) (fit-kept faultLent 2 _ f) (1 ∷ 1 ∷ 1 ∷ 0 ∷ []) refl tt 1 1 tt;
+        first = clear faultStart fit (0 ∷ 0 ∷ 0 ∷ 0 ∷ []) refl tt 0 0 tt;
+        second = clear (faultStep 0 faultStart) fit-0 (1 ∷ 0 ∷ 0 ∷ 0 ∷ []) refl tt 1 0 tt;
+        third = clear (faultStep 1 (faultStep 0 faultStart)) f (1 ∷ 1 ∷ 0 ∷ 0 ∷ []) refl tt 0 1 tt;
+        fourth = clear (faultStep 2 (faultStep 1 (faultStep 0 faultStart))) (fit-kept faultLent 2 _ f) (1 ∷ 1 ∷ 1 ∷ 0 ∷ []) refl tt 1 1 tt;
       }
 
   -- ---- the old rule: each visit is done, and the sample is 102
-  pub old-allowed : answers (oldVisit 2 step (earlyOf faultLent)) oldOrder (unvisited faultLent start) ≡ 0 ∷ 0 ∷ 0 ∷ 0 ∷ []
-  old-allowed = old-allows step (earlyOf faultLent) start old-clear
+  pub old-allowed : answers (oldVisit 2 faultStep (earlyOf faultLent)) oldOrder (unvisited faultLent faultStart) ≡ 0 ∷ 0 ∷ 0 ∷ 0 ∷ []
+  old-allowed = old-allows faultStep (earlyOf faultLent) faultStart old-clear
 
-  pub old-102 : getD (run (oldVisit 2 step (earlyOf faultLent)) oldOrder (unvisited faultLent start) .0 .luma) 495 0 ≡ 102
-  old-102 = ap (λ (s : State Planes). getD (s .0 .luma) 495 0) (old-ends step (earlyOf faultLent) start old-clear) ∙ samples .0
+  pub old-102 : getD (run (oldVisit 2 faultStep (earlyOf faultLent)) oldOrder (unvisited faultLent faultStart) .0 .luma) 495 0 ≡ 102
+  old-102 = ap (λ (s : State Planes). getD (s .0 .luma) 495 0) (old-ends faultStep (earlyOf faultLent) faultStart old-clear) ∙ samples .0
 
   -- raster order, as our visit allows it: 103
-  pub raster-103 : getD (run (visitOf faultLent) rasterOrder (unvisited faultLent start) .0 .luma) 495 0 ≡ 103
-  raster-103 = ap (λ (s : State Planes). getD (s .0 .luma) 495 0) (raster-ends step (earlyOf faultLent) start raster-clear) ∙ samples .1
+  pub raster-103 : getD (run (visitOf faultLent) rasterOrder (unvisited faultLent faultStart) .0 .luma) 495 0 ≡ 103
+  raster-103 = ap (λ (s : State Planes). getD (s .0 .luma) 495 0) (raster-ends faultStep (earlyOf faultLent) faultStart raster-clear) ∙ samples .1
 
   -- so demand 3 does not hold of the old release
-  pub old-refuted-here : Demand3 2 2 step (earlyOf faultLent) itself (oldVisit 2 step (earlyOf faultLent)) → ⊥
+  pub old-refuted-here : Demand3 2 2 faultStep (earlyOf faultLent) itself (oldVisit 2 faultStep (earlyOf faultLent)) → ⊥
   old-refuted-here =
-      old-refuted step (earlyOf faultLent) start old-clear
+      old-refuted faultStep (earlyOf faultLent) faultStart old-clear
       (λ e. let k = sym (samples .0) ∙ ap (λ (p : Planes). getD (p .luma) 495 0) e ∙ samples .1 in omega arith)

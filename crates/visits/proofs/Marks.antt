@@ -32,9 +32,9 @@ visited-stays ms m i k = set-at-place (λ v. v ≡ 1) ms m 1 i (λ e. refl) k
 
 -- nothing visited, as a caller lends it
 pub zeros-are-fresh : (W H : ℕ) (ms : List ℕ) → length ms ≡ W * H → ((i : ℕ) → i < W * H → getD ms i 0 ≡ 0) → ms ≡ fresh W H
-zeros-are-fresh W H ms l size =
+zeros-are-fresh W H ms l zeros =
     ext-getD 0 ms (fresh W H) (l ∙ sym (length-replicate (W * H) 0))
-    (λ i h. let b : i < W * H = omega arith in size i b ∙ sym (getD-replicate (W * H) i 0 0 b))
+    (λ i h. let b : i < W * H = omega arith in zeros i b ∙ sym (getD-replicate (W * H) i 0 0 b))
 
 pub set-bits : (ms : List ℕ) (m : ℕ) → Bits ms → Bits (set ms m 1)
 set-bits ms m b i = set-at-place (λ k. k ≤ 1) ms m 1 i (λ e. le-refl 1) (b i)

@@ -29,7 +29,7 @@ module _ (W H : ℕ) {A S : Type 0} (step : ℕ → S → S) (early : State S �
       → Beyond3 W H step early number call → (start : S) → Valid start → (rs : List At)
       → AllVisited W H (run call rs (start, fresh W H) .1)
       ⊎ ((x : ℕ) × (y : ℕ) × (x < W) × (y < H) × (number (call (run call rs (start, fresh W H)) (x, y) .0) ≡ 0))
-  never-stuck Valid kept clear D E start v rs = some-answers-0 now a (clear now valid (E start rs .size) (E start rs .bits))
+  never-stuck Valid kept clear D E start v rs = some-answers-0 now a (clear now valid (E start rs .full) (E start rs .bits))
     where
       now : State S
       now = run call rs (start, fresh W H)

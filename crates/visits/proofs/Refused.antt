@@ -133,10 +133,15 @@ module _ {S : Type 0} (step : ℕ → S → S) (early : State S → At → ℕ) 
   unfolding answer waiting
   ready-first e t o = let k : _≡_ {A = ℕ} 14 13 = rw (eq-eqb _ 0 e) at (o .number) in omega arith
 
+  -- a marked macroblock refused with 14
+  pub marked-as-waiting : early (s, 1 ∷ 0 ∷ []) (0, 0) ≡ 0 → (t : State S) → VisitOutcomeOf 2 step early (s, 1 ∷ 0 ∷ []) (0, 0) 14 t → ⊥
+  unfolding answer waiting
+  marked-as-waiting e t o = let k : _≡_ {A = ℕ} 14 13 = rw (eq-eqb _ 0 e) at (o .number) in omega arith
+
   -- (1, 0) before (0, 0)
   pub marks-refused : early (s, 0 ∷ 0 ∷ []) (1, 0) ≡ 0 → Demand3 2 1 step early itself (marksRefused 2 step early) → ⊥
   unfolding answer waiting
   marks-refused e d = omega (arith, ap (λ (t : State S). getD (t .1) 1 0) (d s [] .refused (1, 0) not-0))
     where
       not-0 : answer 2 early (s, fresh 2 1) (1, 0) ≢ 0
-      not-0 size = let k : _≡_ {A = ℕ} 14 0 = rw (eq-eqb _ 0 e) at size in omega arith
+      not-0 z = let k : _≡_ {A = ℕ} 14 0 = rw (eq-eqb _ 0 e) at z in omega arith

@@ -20,7 +20,7 @@ use Rattle.visits.specs.AnyOrder.{Visited}
 use Rattle.visits.specs.Rounds.{Able, markAll, Allowed, Full, Schedule, over, next, earliest, Rounds}
 use Rattle.visits.proofs.Marks.{visited-stays, fresh-none}
 use Rattle.visits.proofs.Neighbours.{wide}
-use Rattle.visits.proofs.Earliest.{roundOf, round-at, dep-earlier, dep-just, within, last-round}
+use Rattle.visits.proofs.Earliest.{roundOf, round-at, dep-earlier, dep-just, earliest-within, last-round}
 
 -- ---- the marks of a round
 markAll-length : (is ms : List ℕ) → length (markAll is ms) ≡ length ms
@@ -204,6 +204,6 @@ module _ (W H : ℕ) where
     no-fewer = λ {rounds} w h s all.
         omega (arith, last-round W H w h, from-fresh-no-more s (W - 1) (H - 1) (omega arith) (omega arith) (all (W - 1) (H - 1) (omega arith) (omega arith)));
     each-in-its-round = λ s x y hx hy. (from-fresh-no-more (full→allowed s) x y hx hy, from-fresh-no-less s x y hx hy);
-    finished = λ s l x y hx hy. from-fresh-no-less s x y hx hy (omega (arith, within W H x y hx hy));
+    finished = λ s l x y hx hy. from-fresh-no-less s x y hx hy (omega (arith, earliest-within W H x y hx hy));
     full = λ k. full-rounds k 0 (fresh W H) (length-replicate (W * H) 0) none-more none-less;
   }

@@ -37,23 +37,23 @@ module _
     (Valid : S → Type 0)
     (kept : (i : ℕ) (s : S) → Valid s → Valid (step i s))
     (clear : Passes W H early Valid) where
-  pub record Good (s : State S) : Type 0 where
+  pub record ValidState (s : State S) : Type 0 where
     pub valid : Valid (s .0)
-    pub size : length (s .1) ≡ W * H
+    pub full : length (s .1) ≡ W * H
     pub bits : Bits (s .1)
 
-  pub good-visit : (s : State S) (r : At) → Good s → Good (visit W step early s r .1)
+  pub valid-visit : (s : State S) (r : At) → ValidState s → ValidState (visit W step early s r .1)
   unfolding visit
-  good-visit s r g = cond-both Good (eqb (answer W early s r) 0) stepped g
+  valid-visit s r g = cond-both ValidState (eqb (answer W early s r) 0) stepped g
     where
       m : ℕ
       m = r .1 * W + r .0
 
-      stepped : Good (step m (s .0), set (s .1) m 1)
-      stepped = record { valid = kept m (s .0) (g .valid); size = length-set (s .1) m 1 ∙ g .size; bits = set-bits (s .1) m (g .bits) }
+      stepped : ValidState (step m (s .0), set (s .1) m 1)
+      stepped = record { valid = kept m (s .0) (g .valid); full = length-set (s .1) m 1 ∙ g .full; bits = set-bits (s .1) m (g .bits) }
 
   -- one that is ready is marked afterwards, whether it was before or not
-  marks-one : (s : State S) (i : ℕ) → Good s → i < W * H → Ready (Dep W) (s .1) i → visit W step early s (placeOf W i) .1 .1 ≡ set (s .1) i 1
+  marks-one : (s : State S) (i : ℕ) → ValidState s → i < W * H → Ready (Dep W) (s .1) i → visit W step early s (placeOf W i) .1 .1 ≡ set (s .1) i 1
   marks-one s i g h r = go (ℕ-discrete (getD (s .1) i 0) 1)
     where
       w : 0 < W
@@ -69,11 +69,11 @@ module _
       at = div-add-mod' i W
 
       e : early s (x, y) ≡ 0
-      e = clear s (g .valid) (g .size) (g .bits) x y (mod-lt i w) (div-lt-iff-lt-mul w .1 (omega arith))
+      e = clear s (g .valid) (g .full) (g .bits) x y (mod-lt i w) (div-lt-iff-lt-mul w .1 (omega arith))
 
       go : Dec (Marked (s .1) i) → visit W step early s (x, y) .1 .1 ≡ set (s .1) i 1
       go (yes m) =
-          let size = already-exactly W H step early inside s x y e .1 (rw at m) in
+          let marked = already-exactly W H step early inside s x y e .1 (rw at m) in
           ap (λ (t : State S). t .1) (refused-unchanged W step early s (x, y) (λ k. omega arith))
           ∙ sym (ap (λ (v : ℕ). set (s .1) i v) (sym m) ∙ set-getD (s .1) i 0)
       go (no u) =
@@ -82,19 +82,19 @@ module _
           ∙ ap (λ (k : ℕ). set (s .1) k 1) at
 
   -- those of a round stay ready while it is made
-  round-run : (is : List ℕ) (s : State S) → Good s → All (λ i. (i < W * H) × Ready (Dep W) (s .1) i) is
-      → Good (run (visit W step early) (map (placeOf W) is) s) × (run (visit W step early) (map (placeOf W) is) s .1 ≡ markAll is (s .1))
+  round-run : (is : List ℕ) (s : State S) → ValidState s → All (λ i. (i < W * H) × Ready (Dep W) (s .1) i) is
+      → ValidState (run (visit W step early) (map (placeOf W) is) s) × (run (visit W step early) (map (placeOf W) is) s .1 ≡ markAll is (s .1))
   round-run [] s g r = (g, refl)
   round-run (i ∷ is) s g r =
       let t = visit W step early s (placeOf W i) .1 in
       let e : t .1 ≡ set (s .1) i 1 = marks-one s i g (r .0 .0) (r .0 .1) in
       let k =
-      round-run is t (good-visit s (placeOf W i) g)
+      round-run is t (valid-visit s (placeOf W i) g)
       (all-map (λ j. (j < W * H) × Ready (Dep W) (s .1) j) (λ j. (j < W * H) × Ready (Dep W) (t .1) j) is
       (λ j p. (p .0, λ a d. subst (λ (ms : List ℕ). Marked ms a) (sym e) (visited-stays (s .1) i a (p .1 a d)))) (r .1)) in
       (k .0, k .1 ∙ ap (markAll is) e)
 
-  pub schedule-run : {ms end : List ℕ} {rounds : List (List ℕ)} → Schedule (Allowed W H) ms rounds end → (s : State S) → Good s → s .1 ≡ ms
+  pub schedule-run : {ms end : List ℕ} {rounds : List (List ℕ)} → Schedule (Allowed W H) ms rounds end → (s : State S) → ValidState s → s .1 ≡ ms
       → run (visit W step early) (asRequests W rounds) s .1 ≡ end
   schedule-run over s g e = e
   schedule-run (next {ms = ms} {is = is} {rounds = rounds} r c) s g e =
@@ -109,7 +109,7 @@ module _
       → roundsFor W H ≤ length rounds → (start : S) → Valid start
       → run (visit W step early) (asRequests W rounds) (start, fresh W H) .0 ≡ upTo (W * H) step start
   rounds-filter E {rounds = rounds} c l start v =
-      E start (asRequests W rounds) .whole (rw (schedule-run (full→allowed W H c) (start, fresh W H) good refl) (rounds-proved W H .finished c l))
+      E start (asRequests W rounds) .whole (rw (schedule-run (full→allowed W H c) (start, fresh W H) started refl) (rounds-proved W H .finished c l))
     where
-      good : Good (start, fresh W H)
-      good = record { valid = v; size = length-replicate (W * H) 0; bits = fresh-bits (W * H) }
+      started : ValidState (start, fresh W H)
+      started = record { valid = v; full = length-replicate (W * H) 0; bits = fresh-bits (W * H) }

@@ -10,6 +10,7 @@ use lib.ListN.{length, getD, replicate, length-replicate}
 use lib.Dec.{T}
 use Rattle.laws.specs.Clip.{clip3, clip1}
 use Rattle.laws.specs.Loop.{upTo}
+use Rattle.laws.specs.Some.{some}
 use Rattle.laws.specs.Places.{Plane}
 use Rattle.laws.proofs.Table.{bounded, at-most}
 use Rattle.lines.specs.Filter.{deltaOf}
@@ -20,11 +21,11 @@ use Rattle.lines.specs.Planes.{lumaAt}
 use Rattle.edges.specs.Edge.{lumaRule, lumaEdge}
 use Rattle.edges.specs.Macroblock.{lumaWay, lumaBoth}
 use Rattle.edges.specs.Picture.{Planes, planes, lumaOf, flagAt, macroblockAt, stepOf}
-use Rattle.visits.specs.Visit.{At, State, fresh, itself}
+use Rattle.visits.specs.Visit.{At, State, fresh, answer, itself}
 use Rattle.visits.specs.AnyOrder.{Demand3}
 use Rattle.visits.specs.Old.{oldVisit}
-use Rattle.pictures.specs.Checks.{Lent, lent, heldOf}
-use Rattle.visits.specs.Checks.{earlyOf, Sound, Fit}
+use Rattle.pictures.specs.Checks.{Lent, lent, heldOf, someBad}
+use Rattle.visits.specs.Checks.{badMarks, badQps, earlyOf, Sound, Fit}
 use Rattle.visits.specs.Promise.{VisitOutcome}
 use Rattle.visits.specs.Fault.{band, outerStrengths, faultLent}
 use Rattle.visits.proofs.Marks.{fresh-bits}
@@ -45,13 +46,13 @@ visit-always-refuses d v w h start f =
 abbrev pub pairLent : Lent
 pairLent = lent (record { w = 2; h = 1 }) (record { a = pos 0; b = pos 0; chroma = pos 0 }) (outerStrengths 0 0 ++ outerStrengths 1 0) (40 ∷ 40 ∷ []) []
 
-abbrev pub pair : Planes
-pair = planes (band 16 16 100 16 103) (replicate 128 128) (replicate 128 128)
+abbrev pub pairPlanes : Planes
+pairPlanes = planes (band 16 16 100 16 103) (replicate 128 128) (replicate 128 128)
 
 pair-sound : Sound pairLent
 pair-sound = record { sides = refl; lengths = refl; range = refl; flag = none-over 1 [] tt; qp = none-over 51 (40 ∷ 40 ∷ []) tt; strength = none-over 4 (outerStrengths 0 0 ++ outerStrengths 1 0) tt }
 
-pair-fit : Fit pairLent pair
+pair-fit : Fit pairLent pairPlanes
 unfolding band
 pair-fit = record { luma = refl; u = refl; v = refl }
 
@@ -62,29 +63,39 @@ abbrev pub pairStep : ℕ → Planes → Planes
 pairStep = stepOf (heldOf pairLent)
 
 -- filtering the second changes sample (15, 0)
-pair-moves : pairStep 1 (pairStep 0 pair) ≢ pairStep 0 pair
+pair-moves : pairStep 1 (pairStep 0 pairPlanes) ≢ pairStep 0 pairPlanes
 unfolding band macroblockAt lumaOf flagAt upTo lumaRule lumaEdge lumaWay lumaBoth lumaAt lumaLine normalLine lumaNormal nudgeOf innerOf deltaOf clip3 clip1 average indexOf alphas betas tc0s
 pair-moves e = let k : _≡_ {A = ℕ} 101 100 = ap (λ (p : Planes). getD (p .luma) 15 0) e in omega arith
 
 -- filters on the first visit and afterwards only sets marks
 pub first-only : Demand3 2 1 pairStep (earlyOf pairLent) itself (firstOnly 2 pairStep (earlyOf pairLent)) → ⊥
 first-only =
-    refused.first-only pairStep (earlyOf pairLent) pair (pair-clear pair pair-fit 0 0 0 tt (omega arith))
-    (pair-clear (pairStep 0 pair) (fit-kept pairLent 0 pair pair-fit) 1 0 1 tt (omega arith)) pair-moves
+    refused.first-only pairStep (earlyOf pairLent) pairPlanes (pair-clear pairPlanes pair-fit 0 0 0 tt (omega arith))
+    (pair-clear (pairStep 0 pairPlanes) (fit-kept pairLent 0 pairPlanes pair-fit) 1 0 1 tt (omega arith)) pair-moves
 
 -- refuses a ready macroblock with another number
 pub turns-away : Demand3 2 1 pairStep (earlyOf pairLent) itself (turnsAway 2 pairStep (earlyOf pairLent)) → ⊥
 turns-away =
-    refused.turns-away pairStep (earlyOf pairLent) pair (pair-clear pair pair-fit 0 0 0 tt (omega arith))
-    (pair-clear (pairStep 0 pair) (fit-kept pairLent 0 pair pair-fit) 1 0 1 tt (omega arith))
+    refused.turns-away pairStep (earlyOf pairLent) pairPlanes (pair-clear pairPlanes pair-fit 0 0 0 tt (omega arith))
+    (pair-clear (pairStep 0 pairPlanes) (fit-kept pairLent 0 pairPlanes pair-fit) 1 0 1 tt (omega arith))
 
 -- asks 14 before 13: no answer and no state after it is allowed
-pub ready-first : (t : State Planes) → VisitOutcome pairLent (pair, 0 ∷ 1 ∷ []) (1, 0) (readyFirst 2 pairStep (earlyOf pairLent) (pair, 0 ∷ 1 ∷ []) (1, 0)) t → ⊥
-ready-first = refused.ready-first pairStep (earlyOf pairLent) pair (pair-clear pair pair-fit 0 1 1 tt (omega arith))
+pub ready-first : (t : State Planes) → VisitOutcome pairLent (pairPlanes, 0 ∷ 1 ∷ []) (1, 0) (readyFirst 2 pairStep (earlyOf pairLent) (pairPlanes, 0 ∷ 1 ∷ []) (1, 0)) t → ⊥
+ready-first = refused.ready-first pairStep (earlyOf pairLent) pairPlanes (pair-clear pairPlanes pair-fit 0 1 1 tt (omega arith))
+
+-- refuses a marked macroblock with 14: 13 comes first
+pub marked-as-waiting : (t : State Planes) → VisitOutcome pairLent (pairPlanes, 1 ∷ 0 ∷ []) (0, 0) 14 t → ⊥
+marked-as-waiting = refused.marked-as-waiting pairStep (earlyOf pairLent) pairPlanes (pair-clear pairPlanes pair-fit 1 0 0 tt (omega arith))
+
+-- lets QP 52 to the left pass check 8
+pub left-qp-52 : (t : State Planes)
+    → VisitOutcome (lent (pairLent .size) (pairLent .offsets) (pairLent .strengths) (52 ∷ 40 ∷ []) []) (pairPlanes, 1 ∷ 0 ∷ []) (1, 0) 0 t → ⊥
+unfolding answer earlyOf badMarks badQps someBad some band
+left-qp-52 t o = let k : _≡_ {A = ℕ} 0 8 = o .number in omega arith
 
 -- sets its mark though it refuses
 pub marks-refused : Demand3 2 1 pairStep (earlyOf pairLent) itself (marksRefused 2 pairStep (earlyOf pairLent)) → ⊥
-marks-refused = refused.marks-refused pairStep (earlyOf pairLent) pair (pair-clear pair pair-fit 0 0 1 tt (omega arith))
+marks-refused = refused.marks-refused pairStep (earlyOf pairLent) pairPlanes (pair-clear pairPlanes pair-fit 0 0 1 tt (omega arith))
 
 -- ---- one macroblock, with strength 1 on its second vertical edge
 abbrev oneStrengths : List ℕ
@@ -93,28 +104,28 @@ oneStrengths = replicate 4 0 ++ replicate 4 1 ++ replicate 24 0
 abbrev pub oneLent : Lent
 oneLent = lent (record { w = 1; h = 1 }) (record { a = pos 0; b = pos 0; chroma = pos 0 }) oneStrengths (40 ∷ []) []
 
-abbrev pub one : Planes
-one = planes (band 16 4 100 12 103) (replicate 64 128) (replicate 64 128)
+abbrev pub onePlanes : Planes
+onePlanes = planes (band 16 4 100 12 103) (replicate 64 128) (replicate 64 128)
 
 one-sound : Sound oneLent
 one-sound = record { sides = refl; lengths = refl; range = refl; flag = none-over 1 [] tt; qp = none-over 51 (40 ∷ []) tt; strength = none-over 4 oneStrengths tt }
 
-one-fit : Fit oneLent one
+one-fit : Fit oneLent onePlanes
 unfolding band
 one-fit = record { luma = refl; u = refl; v = refl }
 
-one-moves : stepOf (heldOf oneLent) 0 one ≢ one
+one-moves : stepOf (heldOf oneLent) 0 onePlanes ≢ onePlanes
 unfolding band macroblockAt lumaOf flagAt upTo lumaRule lumaEdge lumaWay lumaBoth lumaAt lumaLine normalLine lumaNormal nudgeOf innerOf deltaOf clip3 clip1 average indexOf alphas betas tc0s
 one-moves e = let k : _≡_ {A = ℕ} 101 100 = ap (λ (p : Planes). getD (p .luma) 3 0) e in omega arith
 
 -- leaves the planes untouched
 pub planes-untouched : Demand3 1 1 (stepOf (heldOf oneLent)) (earlyOf oneLent) itself (idleVisit 1 (stepOf (heldOf oneLent)) (earlyOf oneLent)) → ⊥
 planes-untouched =
-    refused.planes-untouched (stepOf (heldOf oneLent)) (earlyOf oneLent) one
-    (passes-valid oneLent one-sound (one, 0 ∷ []) one-fit refl (at-most 1 (0 ∷ []) tt) 0 0 (omega arith) (omega arith)) one-moves
+    refused.planes-untouched (stepOf (heldOf oneLent)) (earlyOf oneLent) onePlanes
+    (passes-valid oneLent one-sound (onePlanes, 0 ∷ []) one-fit refl (at-most 1 (0 ∷ []) tt) 0 0 (omega arith) (omega arith)) one-moves
 
 -- ---- readiness without the upper right neighbour, on the picture of Fault.antt: already the answer to its
 -- second visit is wrong
 pub without-upper-right : (u v : Plane) → length u ≡ 256 → length v ≡ 256
     → Demand3 2 2 (stepOf (heldOf faultLent)) (earlyOf faultLent) itself (oldVisit 2 (stepOf (heldOf faultLent)) (earlyOf faultLent)) → ⊥
-without-upper-right u v lu lv = refused.without-upper-right (fault.step u v lu lv) (earlyOf faultLent) (fault.start u v lu lv) (fault.old-clear u v lu lv)
+without-upper-right u v lu lv = refused.without-upper-right (fault.faultStep u v lu lv) (earlyOf faultLent) (fault.faultStart u v lu lv) (fault.old-clear u v lu lv)

@@ -21,7 +21,7 @@ module _ (W H : ℕ) {A S : Type 0} (step : ℕ → S → S) (early : State S �
     pub earlier : (r : At) → early now r ≢ 0 → number (call now r .0) ≡ early now r
     pub already : (x y : ℕ) → early now (x, y) ≡ 0 → (number (call now (x, y) .0) ≡ 13) ↔ Visited W (now .1) x y
     -- a mark for each macroblock, 0 or 1, and none is taken back
-    pub size : length (now .1) ≡ W * H
+    pub full : length (now .1) ≡ W * H
     pub bits : Bits (now .1)
     pub kept : (r : At) (i : ℕ) → getD (now .1) i 0 ≤ getD (call now r .1 .1) i 0
 

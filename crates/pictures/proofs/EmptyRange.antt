@@ -2,7 +2,7 @@
 -- nothing.
 use mathlib.Core.Path.{_≡_, refl, sym, ap, _∙_}
 use mathlib.Core.Bool.{Bool, true, false, cond, not, _&&_}
-use mathlib.Core.List.{List}
+use mathlib.Core.List.{List, _++_}
 use Prim.Native.Nat.{ℕ, _-_, _*_}
 use native.Mathlib.Nat.{le-refl}
 use borrow.Author.Tests.{le-ltb}
@@ -12,7 +12,7 @@ use Rattle.laws.specs.Refusal.{refusal}
 use Rattle.laws.proofs.Refusal.{skip}
 use Rattle.edges.specs.Picture.{Planes, rowsOf}
 use Rattle.edges.proofs.Pictures.{rows-none}
-use Rattle.pictures.specs.Checks.{Lent, heldOf, badFlag, badQp, badStrength, someBad, someBadFlag, entryChecks, lengthChecks}
+use Rattle.pictures.specs.Checks.{Lent, heldOf, badFlag, badQp, badStrength, someBad, someBadFlag, pictureChecks, gridChecks, entryChecks}
 use Rattle.pictures.specs.Rows.{badRange, qpsFrom, rowReads, rowAnswer, RowOutcome}
 use Rattle.pictures.proofs.Parts.{first-passed}
 use Rattle.pictures.proofs.SomeBad.{some-bad-none}
@@ -20,7 +20,9 @@ use Rattle.pictures.proofs.SomeBad.{some-bad-none}
 module _ (d : Lent) (p : Planes) (a : ℕ) where
   -- checks 1 to 6
   abbrev pub lengthsOf : List (ℕ × Bool)
-  lengthsOf = lengthChecks d (length (p .luma)) (length (p .u)) (length (p .v)) (badRange (d .size) a a) false
+  lengthsOf =
+      pictureChecks (d .size) (badRange (d .size) a a) (length (p .luma)) (length (p .u)) (length (p .v))
+      ++ gridChecks (d .size .w * d .size .h) (length (d .strengths)) (length (d .qps)) (length (d .t8s)) false (d .offsets)
 
   no-flags : (n : ℕ) → someBadFlag n n (d .t8s) ≡ false
   no-flags n = go (not (eqb (length (d .t8s)) 0))

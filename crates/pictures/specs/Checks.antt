@@ -65,21 +65,14 @@ someBadFlag a b t8s = not (eqb (length t8s) 0) && someBad badFlag a b t8s
 abbrev pub someBadStrength : ℕ → ℕ → List ℕ → Bool
 someBadStrength a b strengths = someBad badStrength (32 * a) (32 * b) strengths
 
--- ---- the checks, in three parts: each may be made once those before it have passed. `outside`: what the
--- call asks for lies outside the picture
+-- ---- the checks in their order, in three parts: each is made once those before it have passed. `outside`:
+-- what the call asks for lies outside the picture
 abbrev pub pictureChecks : Size → Bool → ℕ → ℕ → ℕ → List (ℕ × Bool)
-pictureChecks size outside luma u v =
-    (1, badSize size)
-    ∷ (2, outside)
-    ∷ (3, badPlanes (size .w * size .h) luma u v)
-    ∷ []
+pictureChecks size outside luma u v = (1, badSize size) ∷ (2, outside) ∷ (3, badPlanes (size .w * size .h) luma u v) ∷ []
 
--- `other`: another grid that it is lent has the wrong length
+-- `other`: another grid that the call is lent has the wrong length
 abbrev pub gridChecks : ℕ → ℕ → ℕ → ℕ → Bool → Offsets → List (ℕ × Bool)
-gridChecks n strengths qps t8s other o =
-    (4, badLent n strengths qps t8s || other)
-    ∷ (6, badOffsets o)
-    ∷ []
+gridChecks n strengths qps t8s other o = (4, badLent n strengths qps t8s || other) ∷ (6, badOffsets o) ∷ []
 
 -- what a call reads, each as whether a value is bad: flags and marks, QPs, strengths
 pub record Reads : Type 0 where
@@ -88,17 +81,11 @@ pub record Reads : Type 0 where
   pub strengths : Bool
 
 abbrev pub entryChecks : Reads → List (ℕ × Bool)
-entryChecks r =
-    (7, r .flags)
-    ∷ (8, r .qps)
-    ∷ (9, r .strengths)
-    ∷ []
+entryChecks r = (7, r .flags) ∷ (8, r .qps) ∷ (9, r .strengths) ∷ []
 
--- those that read lengths alone, and all; luma, u, v are the lengths of the planes
-abbrev pub lengthChecks : Lent → ℕ → ℕ → ℕ → Bool → Bool → List (ℕ × Bool)
-lengthChecks d luma u v outside other =
+-- all of them; luma, u, v are the lengths of the planes
+abbrev pub filterChecks : Lent → ℕ → ℕ → ℕ → Bool → Bool → Reads → List (ℕ × Bool)
+filterChecks d luma u v outside other r =
     pictureChecks (d .size) outside luma u v
     ++ gridChecks (d .size .w * d .size .h) (length (d .strengths)) (length (d .qps)) (length (d .t8s)) other (d .offsets)
-
-abbrev pub filterChecks : Lent → ℕ → ℕ → ℕ → Bool → Bool → Reads → List (ℕ × Bool)
-filterChecks d luma u v outside other r = lengthChecks d luma u v outside other ++ entryChecks r
+    ++ entryChecks r

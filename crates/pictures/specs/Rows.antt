@@ -20,11 +20,8 @@ abbrev pub qpsFrom : ℕ → ℕ → ℕ → ℕ
 qpsFrom w a b = cond (ltb 0 a && ltb a b) (a * w - w) (a * w)
 
 abbrev pub rowReads : ℕ → ℕ → ℕ → List ℕ → List ℕ → List ℕ → Reads
-rowReads w a b strengths qps t8s = record {
-  flags = someBadFlag (a * w) (b * w) t8s;
-  qps = someBad badQp (qpsFrom w a b) (b * w) qps;
-  strengths = someBadStrength (a * w) (b * w) strengths;
-}
+rowReads w a b strengths qps t8s =
+    record { flags = someBadFlag (a * w) (b * w) t8s; qps = someBad badQp (qpsFrom w a b) (b * w) qps; strengths = someBadStrength (a * w) (b * w) strengths }
 
 abbrev pub rowChecks : Lent → ℕ → ℕ → ℕ → ℕ → ℕ → List (ℕ × Bool)
 rowChecks d a b luma u v = filterChecks d luma u v (badRange (d .size) a b) false (rowReads (d .size .w) a b (d .strengths) (d .qps) (d .t8s))

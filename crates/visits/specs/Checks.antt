@@ -23,10 +23,7 @@ badBefore bad there xs i d = there && bad (getD xs (i - d) 0)
 
 unfoldable pub badMarks : List ℕ → ℕ → ℕ → ℕ → Bool
 badMarks ms w x y =
-    badMark (getD ms i 0)
-    || badBefore badMark (ltb 0 x) ms i 1
-    || badBefore badMark (ltb 0 y) ms i w
-    || badBefore badMark (ltb 0 y && ltb (x + 1) w) ms i (w - 1)
+    badMark (getD ms i 0) || badBefore badMark (ltb 0 x) ms i 1 || badBefore badMark (ltb 0 y) ms i w || badBefore badMark (ltb 0 y && ltb (x + 1) w) ms i (w - 1)
   where
     i : ℕ
     i = y * w + x
@@ -40,14 +37,9 @@ badQps qps w x y = badQp (getD qps i 0) || badBefore badQp (ltb 0 x) qps i 1 || 
 
 -- 7, 8, 9
 abbrev pub visitReads : ℕ → List ℕ → List ℕ → List ℕ → List ℕ → At → Reads
-visitReads w strengths qps t8s ms r = record {
-  flags = someBadFlag i (i + 1) t8s || badMarks ms w (r .0) (r .1);
-  qps = badQps qps w (r .0) (r .1);
-  strengths = someBadStrength i (i + 1) strengths;
-}
-  where
-    i : ℕ
-    i = r .1 * w + r .0
+visitReads w strengths qps t8s ms r =
+    let i = r .1 * w + r .0 in
+    record { flags = someBadFlag i (i + 1) t8s || badMarks ms w (r .0) (r .1); qps = badQps qps w (r .0) (r .1); strengths = someBadStrength i (i + 1) strengths }
 
 -- a visit is lent marks beside, one for each macroblock; luma, u, v are the lengths of the planes
 abbrev pub visitChecks : Lent → ℕ → ℕ → ℕ → List ℕ → At → List (ℕ × Bool)

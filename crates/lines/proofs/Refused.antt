@@ -2,7 +2,7 @@
 -- small input. Assumes nothing.
 use mathlib.Core.Path.{_≡_, ap}
 use mathlib.Core.Bool.{Bool, true, false, cond, _&&_}
-use Prim.Native.Nat.{ℕ, _+_, _-_}
+use Prim.Native.Nat.{ℕ, _+_, _-_, _*_, _/_}
 use native.Mathlib.Omega.{arith}
 use lib.Dec.{leb}
 use lib.IntN.{ℤ, pos, negsuc, negℤ, natAbs, _+ℤ_, _-ℤ_, _*ℤ_}
@@ -11,9 +11,9 @@ use Rattle.laws.specs.Clip.{clip3, clip1, dist}
 use Rattle.lines.specs.Depth.{eight}
 use Rattle.lines.specs.Tables.{alphas, betas, tc0s, alphaAt, betaAt, tc0At}
 use Rattle.lines.specs.Filter.{filterSamples, deltaOf}
-use Rattle.lines.specs.Luma.{line, flatQ, nudgeOf, innerOf, lumaNormal, normalLine, lumaLine}
+use Rattle.lines.specs.Luma.{line, flatP, flatQ, nudgeOf, innerOf, lumaNormal, strongSide, lumaStrong, normalLine, lumaLine}
 use Rattle.lines.specs.declared.luma.Line.{Line}
-use Rattle.lines.specs.Chroma.{short, chromaNormal, normalShort, chromaLine}
+use Rattle.lines.specs.Chroma.{short, chromaNormal, chromaStrong, normalShort, chromaLine}
 use Rattle.lines.specs.declared.chroma.Short.{Short}
 
 differ : {a b : ℤ} → a ≡ b → natAbs a ≡ natAbs b
@@ -63,6 +63,24 @@ pub chroma-without-one : clip1 (eight .top) (pos 60 +ℤ deltaOf (tc0At 30 0) 60
 unfolding chromaLine normalShort chromaNormal deltaOf clip1 clip3 alphas betas tc0s
 chroma-without-one e = omega arith
 
+-- ---- chroma's q0 at strength 4 by q1 alone: 70, rightly 68
+pub chroma-one-side : (2 * eighth .q1 + eighth .q0 + eighth .q1 + 2) / 4 ≡ chromaStrong eighth .q0 → ⊥
+unfolding chromaStrong
+chroma-one-side e = omega arith
+
+-- ---- alpha for beta and beta for alpha: P3 would be left
+pub alpha-beta-exchanged : lumaLine eight 2 (betaAt 30) (alphaAt 30) (tc0At 30 1) ordinary .p0 ≡ lumaLine eight 2 (alphaAt 30) (betaAt 30) (tc0At 30 1) ordinary .p0 → ⊥
+unfolding lumaLine normalLine lumaNormal innerOf nudgeOf deltaOf clip1 clip3 alphas betas tc0s
+alpha-beta-exchanged e = omega arith
+
+-- ---- tC0 of strength 1 at strength 2: a step of 140 at index 51 moves p0 by 15, rightly by 19
+abbrev steep : Line
+steep = line 60 60 60 60 200 200 200 200
+
+pub tc0-of-1 : lumaLine eight 2 (alphaAt 51) (betaAt 51) (tc0At 51 0) steep .p0 ≡ lumaLine eight 2 (alphaAt 51) (betaAt 51) (tc0At 51 1) steep .p0 → ⊥
+unfolding lumaLine normalLine lumaNormal innerOf nudgeOf deltaOf clip1 clip3 alphas betas tc0s
+tc0-of-1 e = omega arith
+
 -- ---- tC0 of another strength: P3 with that of strength 3
 pub tc0-of-3 : lumaLine eight 2 (alphaAt 30) (betaAt 30) (tc0At 30 2) ordinary .p0 ≡ lumaLine eight 2 (alphaAt 30) (betaAt 30) (tc0At 30 1) ordinary .p0 → ⊥
 unfolding lumaLine normalLine lumaNormal innerOf nudgeOf deltaOf clip1 clip3 alphas betas tc0s
@@ -85,3 +103,11 @@ at-most-alpha e = let k = flag e in omega arith
 pub at-most-beta : filterAtMost (alphaAt 30) (betaAt 30) 52 60 70 70 ≡ filterSamples (alphaAt 30) (betaAt 30) 52 60 70 70 → ⊥
 unfolding alphas betas
 at-most-beta e = let k = flag e in omega arith
+
+-- at strength 4 at most alpha / 4 + 2: P6 at 68, where |p0 - q0| is that, would have the long mean for p0
+abbrev sixth : Line
+sixth = line 60 60 60 60 68 68 68 68
+
+pub at-most-close : strongSide (leb (dist 60 68) (alphaAt 30 / 4 + 2) && flatP (betaAt 30) sixth) 60 60 60 60 68 68 .x0 ≡ lumaStrong (alphaAt 30) (betaAt 30) sixth .p0 → ⊥
+unfolding lumaStrong strongSide alphas betas
+at-most-close e = omega arith

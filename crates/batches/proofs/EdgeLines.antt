@@ -20,22 +20,22 @@ use Rattle.batches.specs.Lanes.{allZero, stillEdge}
 use Rattle.batches.specs.Moves.{taken, takenBoth, stored}
 use Rattle.batches.specs.declared.lanes.Four.{Four}
 use Rattle.batches.specs.declared.lanes.Thresholds.{Thresholds}
-use Rattle.batches.proofs.Segments.{zeros}
-use Rattle.batches.proofs.Shapes.{long, short, stays}
+use Rattle.batches.proofs.Segments.{all-zero-at}
+use Rattle.batches.proofs.Shapes.{lumaShape, chromaShape, stays}
 use Rattle.batches.proofs.Loads.{long-is, pair-u, pair-v}
 
 -- ---- where no line can change, none does
 why-still : (s : Four) (l : Thresholds) → stillEdge s l ≡ true → (n k : ℕ) → (segmentStrength n s k ≡ 0) ⊎ (l .alpha ≡ 0)
-why-still s l e n k = ⊎-elim (λ z. inl (zeros s z n k)) (λ z. inr (eqb-true (l .alpha) 0 z)) (or-true (allZero s) (eqb (l .alpha) 0) e)
+why-still s l e n k = ⊎-elim (λ z. inl (all-zero-at s z n k)) (λ z. inr (eqb-true (l .alpha) 0 z)) (or-true (allZero s) (eqb (l .alpha) 0) e)
 
 module _ (d : Depth) (s : Four) (l : Thresholds) (at along step : ℕ) (xs : Plane) where
   pub long-still : stillEdge s l ≡ true → longLines d s l at along step xs ≡ xs
-  unfolding longLines lumaAt long
-  long-still e = upTo-idle 16 _ xs (λ k u h. stays (long d) l (at + k * along) step u (segmentStrength 4 s k) (why-still s l e 4 k))
+  unfolding longLines lumaAt lumaShape
+  long-still e = upTo-idle 16 _ xs (λ k u h. stays (lumaShape d) l (at + k * along) step u (segmentStrength 4 s k) (why-still s l e 4 k))
 
   pub short-still : stillEdge s l ≡ true → shortLines d s l at along step xs ≡ xs
-  unfolding shortLines chromaAt short
-  short-still e = upTo-idle 8 _ xs (λ k u h. stays (short d) l (at + k * along) step u (segmentStrength 2 s k) (why-still s l e 2 k))
+  unfolding shortLines chromaAt chromaShape
+  short-still e = upTo-idle 8 _ xs (λ k u h. stays (chromaShape d) l (at + k * along) step u (segmentStrength 2 s k) (why-still s l e 2 k))
 
   -- ---- a luma edge
   pub long-edge : Straight 16 along step → at + 15 * along + 7 * step < length xs → stored 0 16 at along step (upTo 16 (longAt d s l) (taken at along step xs)) xs ≡ longLines d s l at along step xs
@@ -62,11 +62,11 @@ module _ (d : Depth) (s : Four) (l m : Thresholds) (at along step : ℕ) (xs : P
 
 -- s, l and m are the first edge's strengths and thresholds, r, n and o the second's
 module _ (d : Depth) (s r : Four) (l m n o : Thresholds) (at along step : ℕ) (us vs : Plane) (w : Straight 8 along step) where
-  abbrev block : Plane
-  block = upTo 16 (shortAt d lower r n o) (upTo 16 (shortAt d upper s l m) (takenBoth at along step us vs))
+  abbrev filtered : Plane
+  filtered = upTo 16 (shortAt d lower r n o) (upTo 16 (shortAt d upper s l m) (takenBoth at along step us vs))
 
   pub edges-u : at + 7 * along + 7 * step < length us
-      → stored 0 8 at along step block us ≡ shortLines d r n (at + 4 * step) along step (shortLines d s l at along step us)
+      → stored 0 8 at along step filtered us ≡ shortLines d r n (at + 4 * step) along step (shortLines d s l at along step us)
   unfolding chromaAt
   edges-u h =
       pair-u at along step us vs (λ k. onShort (chromaWith d (uOrV l m k) (uvStrength s k))) (λ k. onShort (chromaWith d (uOrV n o k) (uvStrength r k))) w h
@@ -74,7 +74,7 @@ module _ (d : Depth) (s r : Four) (l m n o : Thresholds) (at along step : ℕ) (
       ∙ ap (shortLines d r n (at + 4 * step) along step) (u-lines d s l m at along step us)
 
   pub edges-v : at + 7 * along + 7 * step < length vs
-      → stored 8 8 at along step block vs ≡ shortLines d r o (at + 4 * step) along step (shortLines d s m at along step vs)
+      → stored 8 8 at along step filtered vs ≡ shortLines d r o (at + 4 * step) along step (shortLines d s m at along step vs)
   unfolding chromaAt
   edges-v h =
       pair-v at along step us vs (λ k. onShort (chromaWith d (uOrV l m k) (uvStrength s k))) (λ k. onShort (chromaWith d (uOrV n o k) (uvStrength r k))) w h

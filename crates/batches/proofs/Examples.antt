@@ -13,16 +13,16 @@ use Rattle.lines.specs.Planes.{chromaAt}
 use Rattle.lines.specs.Inner.{tcBy}
 use Rattle.batches.specs.Lines.{segmentStrength, shortLines, uOrV, uvStrength}
 use Rattle.batches.specs.Lanes.{weakRow, spreadOf, fourEach, twoEach, stillEdge}
-use Rattle.batches.specs.Moves.{copiedRow, movedRows}
+use Rattle.batches.specs.Moves.{copiedRow, movedRows, zippedHalves}
 use Rattle.batches.specs.declared.lanes.Four.{Four}
 use Rattle.batches.specs.declared.lanes.Thresholds.{Thresholds}
 
-abbrev pub mixed : Four
-mixed = record { a = 0; b = 2; c = 4; d = 9 }
+abbrev pub mixedFour : Four
+mixedFour = record { a = 0; b = 2; c = 4; d = 9 }
 
 -- luma line 5 is of the second segment, chroma line 5 of the third, and line 13 of a chroma batch is V's line
 -- 5
-fifth : (segmentStrength 4 mixed 5 ≡ 2) × (segmentStrength 2 mixed 5 ≡ 4) × (uvStrength mixed 13 ≡ 4)
+fifth : (segmentStrength 4 mixedFour 5 ≡ 2) × (segmentStrength 2 mixedFour 5 ≡ 4) × (uvStrength mixedFour 13 ≡ 4)
 fifth = (refl, refl, refl)
 
 whose : (u v : ℕ) → (uOrV u v 7 ≡ u) × (uOrV u v 8 ≡ v)
@@ -36,14 +36,14 @@ abbrev pub shut : Thresholds
 shut = record { alpha = 0; beta = 8; tc1 = 1; tc2 = 1; tc3 = 1 }
 
 -- alpha for the lines of strengths 1 to 3 alone: of the second segment. In chroma of U's and then of V's
-weak-lanes : (fourEach (weakRow thirty) mixed ≡ spreadOf 0 0 25 25 0 0 0 0) × (twoEach (weakRow thirty) (weakRow shut) mixed ≡ spreadOf 0 25 0 0 0 0 0 0)
+weak-lanes : (fourEach (weakRow thirty) mixedFour ≡ spreadOf 0 0 25 25 0 0 0 0) × (twoEach (weakRow thirty) (weakRow shut) mixedFour ≡ spreadOf 0 25 0 0 0 0 0 0)
 weak-lanes = (refl, refl)
 
 abbrev pub nowhere : Four
 nowhere = record { a = 0; b = 0; c = 0; d = 0 }
 
 -- lines may change where a strength is not 0 and alpha is not
-when-still : (stillEdge mixed thirty ≡ false) × (stillEdge nowhere thirty ≡ true) × (stillEdge mixed shut ≡ true)
+when-still : (stillEdge mixedFour thirty ≡ false) × (stillEdge nowhere thirty ≡ true) × (stillEdge mixedFour shut ≡ true)
 when-still = (refl, refl, refl)
 
 -- two rows of two samples, two apart, to places three apart
@@ -51,17 +51,28 @@ two-rows : movedRows 2 2 1 3 0 2 (5 ∷ 6 ∷ 7 ∷ 8 ∷ []) (1 ∷ 1 ∷ 1 ∷
 unfolding movedRows copiedRow upTo
 two-rows = refl
 
+-- 4 rows of 2, turned into 2 rows of 4 and back
+abbrev fourRows : Plane
+fourRows = 1 ∷ 2 ∷ 3 ∷ 4 ∷ 5 ∷ 6 ∷ 7 ∷ 8 ∷ []
+
+abbrev zippedTwice : Plane
+zippedTwice = zippedHalves 4 (zippedHalves 4 fourRows)
+
+turned : (zippedTwice ≡ 1 ∷ 3 ∷ 5 ∷ 7 ∷ 2 ∷ 4 ∷ 6 ∷ 8 ∷ []) × (zippedHalves 4 zippedTwice ≡ fourRows)
+unfolding zippedHalves upTo
+turned = (refl, refl)
+
 -- ---- two chroma edges of one row, 60 60 | 70 70 and 70 70 | 80 80, of strengths 1 and 2 at QP 30 (P8 of the
 -- proved table)
 abbrev pub steps : Plane
 steps = 60 ∷ 60 ∷ 70 ∷ 70 ∷ 70 ∷ 70 ∷ 80 ∷ 80 ∷ []
 
-abbrev pub one : Four
-one = record { a = 1; b = 0; c = 0; d = 0 }
+abbrev pub oneFirst : Four
+oneFirst = record { a = 1; b = 0; c = 0; d = 0 }
 
-abbrev pub two : Four
-two = record { a = 2; b = 0; c = 0; d = 0 }
+abbrev pub twoFirst : Four
+twoFirst = record { a = 2; b = 0; c = 0; d = 0 }
 
-both-edges : shortLines eight two thirty 4 8 1 (shortLines eight one thirty 0 8 1 steps) ≡ 60 ∷ 62 ∷ 68 ∷ 70 ∷ 70 ∷ 72 ∷ 78 ∷ 80 ∷ []
+both-edges : shortLines eight twoFirst thirty 4 8 1 (shortLines eight oneFirst thirty 0 8 1 steps) ≡ 60 ∷ 62 ∷ 68 ∷ 70 ∷ 70 ∷ 72 ∷ 78 ∷ 80 ∷ []
 unfolding shortLines upTo chromaAt chromaLine normalShort chromaNormal deltaOf clip3 clip1 tcBy
 both-edges = refl

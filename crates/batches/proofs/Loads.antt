@@ -14,7 +14,7 @@ use Rattle.laws.specs.Places.{Plane, lineAt}
 use Rattle.batches.specs.Lines.{Straight, vertical, horizontal, upper, lower}
 use Rattle.batches.specs.Moves.{movedRows, emptyBatch, zipped, rowsIn, colsIn, taken, takenBoth, stored}
 use Rattle.batches.proofs.MovedRows.{rows-length, rows-off, rows-at}
-use Rattle.batches.proofs.Zips.{back, forth, zip-length, zip-three, zip-four}
+use Rattle.batches.proofs.Zips.{placeInCols, placeInRows, zip-length, zip-three, zip-four}
 use Rattle.batches.proofs.Parts.{Part, part-one}
 use Rattle.batches.proofs.Bands.{Band, spot, spot-is, band-apart, long-columns, upper-columns, lower-columns, band-lines}
 
@@ -40,7 +40,7 @@ module _ (c n : ℕ) (t : Plane) (at stride : ℕ) (xs : Plane) where
     where
       there : (i : ℕ) → i < 128 → c ≤ i % 16 → i % 16 < c + n → getD xs (spot c at stride 1 i) 0 ≡ getD (zipped (zipped (zipped (zipped t)))) i 0
       there i b h h′ =
-          let e : 8 * c + (i % 16 - c) * 8 + i / 16 ≡ forth i = omega arith in
+          let e : 8 * c + (i % 16 - c) * 8 + i / 16 ≡ placeInRows i = omega arith in
           let g : at + (i % 16 - c) * stride + i / 16 ≡ spot c at stride 1 i = omega arith in
           sym (zip-four t i b ∙ ap (λ (p : ℕ). getD t p 0) (sym e) ∙ f (i % 16 - c) (i / 16) (omega arith) (omega arith) ∙ ap (λ (p : ℕ). getD xs p 0) g)
 
@@ -131,7 +131,7 @@ module _ (c n at : ℕ) (t xs : Plane) (l : length t ≡ 128) (b : c + n ≤ 16)
       there : (i : ℕ) → i < 128 → c ≤ i % 16 → i % 16 < c + n → getD (movedRows n 8 at along (8 * c) 8 u xs) (spot c at along 1 i) 0 ≡ getD t i 0
       there i h f g =
           let e : at + (i % 16 - c) * along + i / 16 ≡ spot c at along 1 i = omega arith in
-          let q : back (8 * c + (i % 16 - c) * 8 + i / 16) ≡ i = omega arith in
+          let q : placeInCols (8 * c + (i % 16 - c) * 8 + i / 16) ≡ i = omega arith in
           ap (λ (p : ℕ). getD (movedRows n 8 at along (8 * c) 8 u xs) p 0) (sym e)
           ∙ rows-at 8 at along (8 * c) 8 u xs w n fits (i % 16 - c) (i / 16) (omega arith) (omega arith)
           ∙ zip-three t (8 * c + (i % 16 - c) * 8 + i / 16) (omega arith)

@@ -35,9 +35,9 @@ pub record Shape : Type 0 where
   pub at-strong : (bs alpha beta tc : ℕ) → 4 ≤ bs → (vs : List ℕ) → line bs alpha beta tc vs ≡ strong alpha beta vs
   pub line-off : (bs alpha beta tc : ℕ) → alpha ≡ 0 → (vs : List ℕ) → line bs alpha beta tc vs ≡ keep vs
 
-unfoldable pub long : Depth → Shape
+unfoldable pub lumaShape : Depth → Shape
 unfolding lumaAt
-long d = record {
+lumaShape d = record {
   n = 6;
   keep = onLine kept;
   normal = λ alpha beta tc. onLine (normalLine d alpha beta tc);
@@ -50,9 +50,9 @@ long d = record {
   line-off = λ bs alpha beta tc h vs. ap fromSix (luma-shut d bs alpha beta tc (inl h) (toLine vs));
 }
 
-unfoldable pub short : Depth → Shape
+unfoldable pub chromaShape : Depth → Shape
 unfolding chromaAt
-short d = record {
+chromaShape d = record {
   n = 2;
   keep = onShort same;
   normal = λ alpha beta tc. onShort (normalShort d alpha beta tc);

@@ -3,7 +3,7 @@
 // the first in rows 0 to 3 and of the second in rows 4 to 7, U's lines in columns 0 to 7 and V's in 8 to 15.
 // Lines are filtered by the functions of `lines`, lane beside lane, so that the compiler makes vector code of
 // them. It does so where a function that handles a batch is called from one place only and inlined there;
-// hence the functions of a kind for U and for V, for the first edge and for the second (docs/SPEED.md).
+// hence the functions of a kind for the first edge and for the second (docs/SPEED.md).
 pub mod chroma;
 pub mod chroma_passes;
 pub mod lanes;

@@ -67,7 +67,7 @@ module _ (c n at : ℕ) (i j : ℕ) (h : Band c n i) (h′ : Band c n j) where
   one along step (vertical e w) q = down along w (subst (λ (m : ℕ). spot c at along m i ≡ spot c at along m j) e q)
   one along step (horizontal e w) q = across step w (subst (λ (m : ℕ). spot c at m step i ≡ spot c at m step j) e q)
 
-pub band-apart : (c n at along step m : ℕ) → Straight n along step → at + (n - 1) * along + 7 * step < m → Apart (Band c n) (spot c at along step) m
+pub band-apart : (c n at along step m : ℕ) → Straight n along step → at + (n - 1) * along + 7 * step < m → Apart 128 (Band c n) (spot c at along step) m
 band-apart c n at along step m s l = record {
   dec = band-dec c n;
   below = λ i h. h .below;
@@ -102,7 +102,7 @@ lower-columns = record { inside = λ k j h l. omega arith; column = λ k j h l. 
 -- sees nothing. They begin r samples after `at`
 module _ (place : ℕ → ℕ) (r m : ℕ) (cs : Columns place r m) (c n e : ℕ) (sum : c + n + e ≡ 16) (at along step to : ℕ) (begins : to ≡ at + r * step) (xs : Plane) where
   abbrev InBand : Plane → Plane → Type 0
-  InBand = Part (Band c n) (spot c at along step) xs
+  InBand = Part 128 (Band c n) (spot c at along step) xs
 
   lies : (k j : ℕ) → k < n → j < suc (suc m) → Lies (Band c n) (spot c at along step) (place (c + k)) (to + k * along) step j
   lies k j h l =
@@ -122,7 +122,7 @@ module _ (place : ℕ → ℕ) (r m : ℕ) (cs : Columns place r m) (c n e : ℕ
           let q = cs .column (ix k) j (b k l) t in
           h k l (subst (λ (x : ℕ). c ≤ x) q (d .from)) (subst (λ (x : ℕ). x < c + n) q (d .to))
 
-  pub band-lines : {b ys : Plane} (f : ℕ → List ℕ → List ℕ) → Apart (Band c n) (spot c at along step) (length xs) → InBand b ys
+  pub band-lines : {b ys : Plane} (f : ℕ → List ℕ → List ℕ) → Apart 128 (Band c n) (spot c at along step) (length xs) → InBand b ys
       → InBand (upTo 16 (λ k. lineAt m (f k) (place k) 16) b) (upTo n (λ k. lineAt m (f (c + k)) (to + k * along) step) ys)
   band-lines {b} {ys} f sp s = subst (λ (t : Plane). InBand t (upTo n (λ k. lineAt m (f (c + k)) (to + k * along) step) ys)) (sym split) after
     where
@@ -137,10 +137,10 @@ module _ (place : ℕ → ℕ) (r m : ℕ) (cs : Columns place r m) (c n e : ℕ
 
       before : InBand (upTo c line b) ys
       before =
-          part-beside (Band c n) (spot c at along step) xs sp (λ i. Band c n i → ⊥) _ (beside f (λ k. k) c (λ k l. omega arith) (λ k l v w. omega arith)) (λ i d x. x d) s
+          part-beside 128 (Band c n) (spot c at along step) xs sp (λ i. Band c n i → ⊥) _ (beside f (λ k. k) c (λ k l. omega arith) (λ k l v w. omega arith)) (λ i d x. x d) s
 
       within : InBand (upTo n (λ k. line (c + k)) (upTo c line b)) (upTo n (λ k. lineAt m (f (c + k)) (to + k * along) step) ys)
-      within = part-lines (Band c n) (spot c at along step) xs sp n m (λ k. f (c + k)) (λ k. place (c + k)) (λ k. to + k * along) step lies before
+      within = part-lines 128 (Band c n) (spot c at along step) xs sp n m (λ k. f (c + k)) (λ k. place (c + k)) (λ k. to + k * along) step lies before
 
       after : InBand (upTo e (λ k. line (c + n + k)) (upTo n (λ k. line (c + k)) (upTo c line b))) (upTo n (λ k. lineAt m (f (c + k)) (to + k * along) step) ys)
-      after = part-beside (Band c n) (spot c at along step) xs sp (λ i. Band c n i → ⊥) _ (beside f (λ k. c + n + k) e (λ k l. omega arith) (λ k l v w. omega arith)) (λ i d x. x d) within
+      after = part-beside 128 (Band c n) (spot c at along step) xs sp (λ i. Band c n i → ⊥) _ (beside f (λ k. c + n + k) e (λ k l. omega arith) (λ k l v w. omega arith)) (λ i d x. x d) within

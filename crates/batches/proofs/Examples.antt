@@ -32,18 +32,18 @@ whose u v = (refl, refl)
 abbrev pub thirty : Thresholds
 thirty = record { alpha = 25; beta = 8; tc1 = 1; tc2 = 1; tc3 = 1 }
 
-abbrev pub shut : Thresholds
-shut = record { alpha = 0; beta = 8; tc1 = 1; tc2 = 1; tc3 = 1 }
+abbrev pub alphaOff : Thresholds
+alphaOff = record { alpha = 0; beta = 8; tc1 = 1; tc2 = 1; tc3 = 1 }
 
 -- alpha for the lines of strengths 1 to 3 alone: of the second segment. In chroma of U's and then of V's
-weak-lanes : (fourEach (weakRow thirty) mixedFour ≡ spreadOf 0 0 25 25 0 0 0 0) × (twoEach (weakRow thirty) (weakRow shut) mixedFour ≡ spreadOf 0 25 0 0 0 0 0 0)
+weak-lanes : (fourEach (weakRow thirty) mixedFour ≡ spreadOf 0 0 25 25 0 0 0 0) × (twoEach (weakRow thirty) (weakRow alphaOff) mixedFour ≡ spreadOf 0 25 0 0 0 0 0 0)
 weak-lanes = (refl, refl)
 
 abbrev pub nowhere : Four
 nowhere = record { a = 0; b = 0; c = 0; d = 0 }
 
 -- lines may change where a strength is not 0 and alpha is not
-when-still : (stillEdge mixedFour thirty ≡ false) × (stillEdge nowhere thirty ≡ true) × (stillEdge mixedFour shut ≡ true)
+when-still : (stillEdge mixedFour thirty ≡ false) × (stillEdge nowhere thirty ≡ true) × (stillEdge mixedFour alphaOff ≡ true)
 when-still = (refl, refl, refl)
 
 -- two rows of two samples, two apart, to places three apart

@@ -26,7 +26,7 @@ module _ (c n : ℕ) (t : Plane) (at stride : ℕ) (xs : Plane) where
   abbrev ColsHeld : Type 0
   ColsHeld = (r k : ℕ) → r < n → k < 8 → getD t (8 * c + r * 8 + k) 0 ≡ getD xs (at + r * stride + k) 0
 
-  rows-part : length t ≡ 128 → RowsHeld → Part (Band c n) (spot c at 1 stride) xs t xs
+  rows-part : length t ≡ 128 → RowsHeld → Part 128 (Band c n) (spot c at 1 stride) xs t xs
   rows-part l f = record { size = l; long = refl; at = λ i d. there i (d .below) (d .from) (d .to); off = λ j g. refl }
     where
       there : (i : ℕ) → i < 128 → c ≤ i % 16 → i % 16 < c + n → getD xs (spot c at 1 stride i) 0 ≡ getD t i 0
@@ -35,7 +35,7 @@ module _ (c n : ℕ) (t : Plane) (at stride : ℕ) (xs : Plane) where
           let g : at + (i / 16) * stride + (i % 16 - c) ≡ spot c at 1 stride i = omega arith in
           sym (ap (λ (p : ℕ). getD t p 0) (sym e) ∙ f (i / 16) (i % 16 - c) (omega arith) (omega arith) ∙ ap (λ (p : ℕ). getD xs p 0) g)
 
-  cols-part : ColsHeld → Part (Band c n) (spot c at stride 1) xs (zipped (zipped (zipped (zipped t)))) xs
+  cols-part : ColsHeld → Part 128 (Band c n) (spot c at stride 1) xs (zipped (zipped (zipped (zipped t)))) xs
   cols-part f = record { size = zip-length (zipped (zipped (zipped t))); long = refl; at = λ i d. there i (d .below) (d .from) (d .to); off = λ j g. refl }
     where
       there : (i : ℕ) → i < 128 → c ≤ i % 16 → i % 16 < c + n → getD xs (spot c at stride 1 i) 0 ≡ getD (zipped (zipped (zipped (zipped t)))) i 0
@@ -54,7 +54,7 @@ module _ (c n at stride : ℕ) (xs t : Plane) (l : length t ≡ 128) (b : c + n 
 
 -- ---- a luma edge, and two chroma edges of both planes
 module _ (at along step : ℕ) where
-  taken-part : (xs : Plane) → Straight 16 along step → Part (Band 0 16) (spot 0 at along step) xs (taken at along step xs) xs
+  taken-part : (xs : Plane) → Straight 16 along step → Part 128 (Band 0 16) (spot 0 at along step) xs (taken at along step xs) xs
   unfolding taken
   taken-part xs (vertical e w) = rw e (cols-part 0 16 _ at along xs (cols-held 0 16 at along xs emptyBatch refl (omega arith)))
   taken-part xs (horizontal e w) =
@@ -62,7 +62,7 @@ module _ (at along step : ℕ) where
       rw (z, e) (rows-part 0 16 _ at step xs (rows-length 16 0 16 at step xs emptyBatch 8) (rows-held 0 16 at step xs emptyBatch refl (omega arith)))
 
   module _ (us vs : Plane) where
-    taken-u : Straight 8 along step → Part (Band 0 8) (spot 0 at along step) us (takenBoth at along step us vs) us
+    taken-u : Straight 8 along step → Part 128 (Band 0 8) (spot 0 at along step) us (takenBoth at along step us vs) us
     unfolding takenBoth
     taken-u (vertical e w) =
         rw e (cols-part 0 8 _ at along us
@@ -73,7 +73,7 @@ module _ (at along step : ℕ) where
         rw (z, e) (rows-part 0 8 _ at step us (rows-length 8 0 16 at step us (rowsIn 8 8 at step vs emptyBatch) 8 ∙ v)
         (rows-held 0 8 at step us (rowsIn 8 8 at step vs emptyBatch) v (omega arith)))
 
-    taken-v : Straight 8 along step → Part (Band 8 8) (spot 8 at along step) vs (takenBoth at along step us vs) vs
+    taken-v : Straight 8 along step → Part 128 (Band 8 8) (spot 8 at along step) vs (takenBoth at along step us vs) vs
     unfolding takenBoth
     taken-v (vertical e w) =
         rw e (cols-part 8 8 _ at along vs (cols-held 8 8 at along vs (colsIn 0 8 at along us emptyBatch) (rows-length 8 0 8 at along us emptyBatch 8) (omega arith)))
@@ -88,7 +88,7 @@ module _ (c n at : ℕ) (t xs : Plane) (l : length t ≡ 128) (b : c + n ≤ 16)
   in-band : (r k : ℕ) → r < 8 → k < n → Band c n (c + r * 16 + k)
   in-band r k h m = record { below = omega arith; from = omega arith; to = omega arith }
 
-  rows-stored : (step : ℕ) → n ≤ step → at + (n - 1) * 1 + 7 * step < length xs → Part (Band c n) (spot c at 1 step) xs t (movedRows 8 n at step c 16 t xs)
+  rows-stored : (step : ℕ) → n ≤ step → at + (n - 1) * 1 + 7 * step < length xs → Part 128 (Band c n) (spot c at 1 step) xs t (movedRows 8 n at step c 16 t xs)
   rows-stored step w room = record {
     size = l;
     long = rows-length n at step c 16 t xs 8;
@@ -111,7 +111,7 @@ module _ (c n at : ℕ) (t xs : Plane) (l : length t ≡ 128) (b : c + n ≤ 16)
           ∙ ap (λ (p : ℕ). getD t p 0) q
 
   cols-stored : (along : ℕ) → 8 ≤ along → at + (n - 1) * along + 7 * 1 < length xs
-      → Part (Band c n) (spot c at along 1) xs t (movedRows n 8 at along (8 * c) 8 (zipped (zipped (zipped t))) xs)
+      → Part 128 (Band c n) (spot c at along 1) xs t (movedRows n 8 at along (8 * c) 8 (zipped (zipped (zipped t))) xs)
   cols-stored along w room = record {
     size = l;
     long = rows-length 8 at along (8 * c) 8 u xs n;
@@ -138,7 +138,7 @@ module _ (c n at : ℕ) (t xs : Plane) (l : length t ≡ 128) (b : c + n ≤ 16)
           ∙ ap (λ (p : ℕ). getD t p 0) q
 
   stored-part : 2 ≤ n → (along step : ℕ) → Straight n along step → at + (n - 1) * along + 7 * step < length xs
-      → Part (Band c n) (spot c at along step) xs t (stored c n at along step t xs)
+      → Part 128 (Band c n) (spot c at along step) xs t (stored c n at along step t xs)
   unfolding stored
   stored-part two along step (vertical e w) room = rw e (cols-stored along w (rw e at room))
   stored-part two along step (horizontal e w) room =
@@ -153,18 +153,18 @@ module _ (at along step : ℕ) where
   long-is xs f s h =
       let sp = band-apart 0 16 at along step (length xs) s h in
       let p = band-lines upper 0 6 long-columns 0 16 0 refl at along step at (omega arith) xs f sp (taken-part at along step xs s) in
-      part-one (Band 0 16) (spot 0 at along step) xs sp (stored-part 0 16 at _ xs (p .size) (omega arith) (omega arith) along step s h) p
+      part-one 128 (Band 0 16) (spot 0 at along step) xs sp (stored-part 0 16 at _ xs (p .size) (omega arith) (omega arith) along step s h) p
 
   -- the eight lines of each of two chroma edges, in a plane whose columns of the batch t begin at c
   pair-is : (c e : ℕ) → c + 8 + e ≡ 16 → (t xs : Plane) (f g : ℕ → List ℕ → List ℕ) → Straight 8 along step → at + 7 * along + 7 * step < length xs
-      → Part (Band c 8) (spot c at along step) xs t xs
+      → Part 128 (Band c 8) (spot c at along step) xs t xs
       → stored c 8 at along step (upTo 16 (λ k. lineAt 2 (g k) (lower k) 16) (upTo 16 (λ k. lineAt 2 (f k) (upper k) 16) t)) xs
       ≡ upTo 8 (λ k. lineAt 2 (g (c + k)) (at + 4 * step + k * along) step) (upTo 8 (λ k. lineAt 2 (f (c + k)) (at + k * along) step) xs)
   pair-is c e sum t xs f g s h part =
       let sp = band-apart c 8 at along step (length xs) s h in
       let p = band-lines upper 0 2 upper-columns c 8 e sum at along step at (omega arith) xs f sp part in
       let q = band-lines lower 4 2 lower-columns c 8 e sum at along step (at + 4 * step) refl xs g sp p in
-      part-one (Band c 8) (spot c at along step) xs sp (stored-part c 8 at _ xs (q .size) (omega arith) (omega arith) along step s h) q
+      part-one 128 (Band c 8) (spot c at along step) xs sp (stored-part c 8 at _ xs (q .size) (omega arith) (omega arith) along step s h) q
 
   module _ (us vs : Plane) (f g : ℕ → List ℕ → List ℕ) (s : Straight 8 along step) where
     abbrev filtered : Plane

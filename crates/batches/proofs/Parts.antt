@@ -1,5 +1,5 @@
--- A batch of which the places in D stand for places of a plane, place i for φ i, so that planes may share a
--- batch: to filter lines of the batch is to filter lines of the plane. Assumes nothing.
+-- A batch of m places, of which those in D stand for places of a plane, place i for φ i, so that planes may
+-- share a batch: to filter lines of the batch is to filter lines of the plane. Assumes nothing.
 use mathlib.Core.Path.{_≡_, refl, sym, ap, subst, _∙_}
 use mathlib.Core.Logic.{_≢_, _⊎_, inl, inr, ⊎-elim}
 use mathlib.Core.List.{List, [], _∷_}
@@ -16,16 +16,16 @@ use Rattle.laws.proofs.Loops.{upTo-both}
 use Rattle.batches.proofs.MovedPlaces.{last-or-before}
 
 -- ys is xs, but for the places φ i, where it holds the batch's b
-pub record Part (D : ℕ → Type 0) (φ : ℕ → ℕ) (xs b ys : Plane) : Type 0 where
-  pub size : length b ≡ 128
+pub record Part (m : ℕ) (D : ℕ → Type 0) (φ : ℕ → ℕ) (xs b ys : Plane) : Type 0 where
+  pub size : length b ≡ m
   pub long : length ys ≡ length xs
   pub at : (i : ℕ) → D i → getD ys (φ i) 0 ≡ getD b i 0
   pub off : (j : ℕ) → ((i : ℕ) → D i → j ≢ φ i) → getD ys j 0 ≡ getD xs j 0
 
 -- the places of D are the batch's, and stand for places of the plane that are apart
-pub record Apart (D : ℕ → Type 0) (φ : ℕ → ℕ) (n : ℕ) : Type 0 where
+pub record Apart (m : ℕ) (D : ℕ → Type 0) (φ : ℕ → ℕ) (n : ℕ) : Type 0 where
   pub dec : (i : ℕ) → Dec (D i)
-  pub below : (i : ℕ) → D i → i < 128
+  pub below : (i : ℕ) → D i → i < m
   pub apart : (i j : ℕ) → D i → D j → i ≢ j → φ i ≢ φ j
   pub room : (i : ℕ) → D i → φ i < n
 
@@ -63,9 +63,9 @@ hit-or-not D φ dec (suc n) j = ⊎-elim inl (λ f. go f (dec n) (ℕ-discrete j
     go f (no c) q = inr (λ i h. ⊎-elim (λ e. rw e (λ x. absurd (c x))) (λ l. f i l) (last-or-before i n h))
     go f (yes d) (no c) = inr (λ i h. ⊎-elim (λ e. rw e (λ x. c)) (λ l. f i l) (last-or-before i n h))
 
-module _ (D : ℕ → Type 0) (φ : ℕ → ℕ) (xs : Plane) (sp : Apart D φ (length xs)) where
+module _ (m : ℕ) (D : ℕ → Type 0) (φ : ℕ → ℕ) (xs : Plane) (sp : Apart m D φ (length xs)) where
   -- one store on both sides
-  part-set : {b ys : Plane} (i v : ℕ) → D i → Part D φ xs b ys → Part D φ xs (set b i v) (set ys (φ i) v)
+  part-set : {b ys : Plane} (i v : ℕ) → D i → Part m D φ xs b ys → Part m D φ xs (set b i v) (set ys (φ i) v)
   part-set {b} {ys} i v h s = record {
     size = length-set b i v ∙ s .size;
     long = length-set ys (φ i) v ∙ s .long;
@@ -78,9 +78,9 @@ module _ (D : ℕ → Type 0) (φ : ℕ → ℕ) (xs : Plane) (sp : Apart D φ (
       by-place j l (no d) = getD-set-other ys (φ i) (φ j) v 0 (sp .apart j i l h d) ∙ s .at j l ∙ sym (getD-set-other b i j v 0 d)
 
   -- a batch stands for one plane only
-  pub part-one : {b ys zs : Plane} → Part D φ xs b ys → Part D φ xs b zs → ys ≡ zs
+  pub part-one : {b ys zs : Plane} → Part m D φ xs b ys → Part m D φ xs b zs → ys ≡ zs
   part-one {b} {ys} {zs} s t =
-      ext-getD 0 ys zs (s .long ∙ sym (t .long)) (λ j l. ⊎-elim (λ w. hit j (w .0) (w .1) (w .2)) (λ f. beside j (λ i d. f i (sp .below i d) d)) (hit-or-not D φ (sp .dec) 128 j))
+      ext-getD 0 ys zs (s .long ∙ sym (t .long)) (λ j l. ⊎-elim (λ w. hit j (w .0) (w .1) (w .2)) (λ f. beside j (λ i d. f i (sp .below i d) d)) (hit-or-not D φ (sp .dec) m j))
     where
       hit : (j i : ℕ) → D i → j ≡ φ i → getD ys j 0 ≡ getD zs j 0
       hit j i h e = rw e (s .at i h ∙ sym (t .at i h))
@@ -89,7 +89,7 @@ module _ (D : ℕ → Type 0) (φ : ℕ → ℕ) (xs : Plane) (sp : Apart D φ (
       beside j g = s .off j g ∙ sym (t .off j g)
 
   -- what is done to the batch outside of D, as to the lines of the other plane
-  pub part-beside : {b ys : Plane} (F : ℕ → Type 0) (g : Plane → Plane) → Local F g → ((i : ℕ) → D i → F i → ⊥) → Part D φ xs b ys → Part D φ xs (g b) ys
+  pub part-beside : {b ys : Plane} (F : ℕ → Type 0) (g : Plane → Plane) → Local F g → ((i : ℕ) → D i → F i → ⊥) → Part m D φ xs b ys → Part m D φ xs (g b) ys
   part-beside {b} {ys} F g l h s = record {
     size = l .len b ∙ s .size;
     long = s .long;
@@ -98,37 +98,37 @@ module _ (D : ℕ → Type 0) (φ : ℕ → ℕ) (xs : Plane) (sp : Apart D φ (
   }
 
   -- samples of both are the same, and are put at the same places
-  part-gets : {b ys : Plane} (is ps : List ℕ) → Meets D φ is ps → Part D φ xs b ys → gets ps ys ≡ gets is b
-  part-gets [] [] m s = refl
-  part-gets [] (p ∷ ps) m s = absurd m
-  part-gets (i ∷ is) [] m s = absurd m
-  part-gets {b} {ys} (i ∷ is) (p ∷ ps) m s = λ j. here j ∷ part-gets is ps (m .1) s j
+  part-gets : {b ys : Plane} (is ps : List ℕ) → Meets D φ is ps → Part m D φ xs b ys → gets ps ys ≡ gets is b
+  part-gets [] [] e s = refl
+  part-gets [] (p ∷ ps) e s = absurd e
+  part-gets (i ∷ is) [] e s = absurd e
+  part-gets {b} {ys} (i ∷ is) (p ∷ ps) e s = λ j. here j ∷ part-gets is ps (e .1) s j
     where
       here : getD ys p 0 ≡ getD b i 0
-      here = ap (λ (q : ℕ). getD ys q 0) (m .0 .1) ∙ s .at i (m .0 .0)
+      here = ap (λ (q : ℕ). getD ys q 0) (e .0 .1) ∙ s .at i (e .0 .0)
 
-  part-puts : {b ys : Plane} (is ps vs : List ℕ) → Meets D φ is ps → Part D φ xs b ys → Part D φ xs (puts is vs b) (puts ps vs ys)
-  part-puts [] [] vs m s = s
-  part-puts [] (p ∷ ps) vs m s = absurd m
-  part-puts (i ∷ is) [] vs m s = absurd m
-  part-puts (i ∷ is) (p ∷ ps) [] m s = s
-  part-puts {b} {ys} (i ∷ is) (p ∷ ps) (v ∷ vs) m s = part-puts is ps vs (m .1) here
+  part-puts : {b ys : Plane} (is ps vs : List ℕ) → Meets D φ is ps → Part m D φ xs b ys → Part m D φ xs (puts is vs b) (puts ps vs ys)
+  part-puts [] [] vs e s = s
+  part-puts [] (p ∷ ps) vs e s = absurd e
+  part-puts (i ∷ is) [] vs e s = absurd e
+  part-puts (i ∷ is) (p ∷ ps) [] e s = s
+  part-puts {b} {ys} (i ∷ is) (p ∷ ps) (v ∷ vs) e s = part-puts is ps vs (e .1) here
     where
-      here : Part D φ xs (set b i v) (set ys p v)
-      here = subst (λ (q : ℕ). Part D φ xs (set b i v) (set ys q v)) (sym (m .0 .1)) (part-set i v (m .0 .0) s)
+      here : Part m D φ xs (set b i v) (set ys p v)
+      here = subst (λ (q : ℕ). Part m D φ xs (set b i v) (set ys q v)) (sym (e .0 .1)) (part-set i v (e .0 .0) s)
 
   -- a line of n + 2 samples
   part-line : {b ys : Plane} (n : ℕ) (f : List ℕ → List ℕ) (k p step : ℕ) → ((j : ℕ) → j < suc (suc n) → Lies D φ k p step j)
-      → Part D φ xs b ys → Part D φ xs (lineAt n f k 16 b) (lineAt n f p step ys)
+      → Part m D φ xs b ys → Part m D φ xs (lineAt n f k 16 b) (lineAt n f p step ys)
   part-line {b} {ys} n f k p step h s =
-      subst (λ (vs : List ℕ). Part D φ xs (puts (places (k + 16) 16 n) (f (gets (places k 16 (suc (suc n))) b)) b) (puts (places (p + step) step n) (f vs) ys))
+      subst (λ (vs : List ℕ). Part m D φ xs (puts (places (k + 16) 16 n) (f (gets (places k 16 (suc (suc n))) b)) b) (puts (places (p + step) step n) (f vs) ys))
       (sym (part-gets (places k 16 (suc (suc n))) (places p step (suc (suc n))) (meets D φ step (suc (suc n)) k p h) s))
       (part-puts (places (k + 16) 16 n) (places (p + step) step n) _ (meets D φ step n (k + 16) (p + step) (λ j l. lies-next D φ k p step j (h (suc j) (omega arith)))) s)
 
-  -- m lines of the batch and of the plane, side by side
-  pub part-lines : {b ys : Plane} (m n : ℕ) (f : ℕ → List ℕ → List ℕ) (col place : ℕ → ℕ) (step : ℕ)
-      → ((k j : ℕ) → k < m → j < suc (suc n) → Lies D φ (col k) (place k) step j)
-      → Part D φ xs b ys → Part D φ xs (upTo m (λ k. lineAt n (f k) (col k) 16) b) (upTo m (λ k. lineAt n (f k) (place k) step) ys)
-  part-lines {b} {ys} m n f col place step h s =
-      upTo-both (Part D φ xs) m (λ k. lineAt n (f k) (col k) 16) (λ k. lineAt n (f k) (place k) step) b ys
-      (λ k u v l r. part-line n (f k) (col k) (place k) step (λ j i. h k j l i) r) s
+  -- h lines of the batch and of the plane, side by side
+  pub part-lines : {b ys : Plane} (h n : ℕ) (f : ℕ → List ℕ → List ℕ) (col place : ℕ → ℕ) (step : ℕ)
+      → ((k j : ℕ) → k < h → j < suc (suc n) → Lies D φ (col k) (place k) step j)
+      → Part m D φ xs b ys → Part m D φ xs (upTo h (λ k. lineAt n (f k) (col k) 16) b) (upTo h (λ k. lineAt n (f k) (place k) step) ys)
+  part-lines {b} {ys} h n f col place step at s =
+      upTo-both (Part m D φ xs) h (λ k. lineAt n (f k) (col k) 16) (λ k. lineAt n (f k) (place k) step) b ys
+      (λ k u v l r. part-line n (f k) (col k) (place k) step (λ j i. at k j l i) r) s

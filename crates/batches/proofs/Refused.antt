@@ -20,7 +20,7 @@ use Rattle.batches.specs.Lines.{segmentStrength, shortLines, upper, lowe
 use Rattle.batches.specs.Lanes.{atSlot, weakRow, spreadOf, fourEach}
 use Rattle.batches.specs.Moves.{copiedRow}
 use Rattle.batches.specs.declared.lanes.Four.{Four}
-use Rattle.batches.proofs.Examples.{mixedFour, thirty, shut, steps, oneFirst, twoFirst}
+use Rattle.batches.proofs.Examples.{mixedFour, thirty, alphaOff, steps, oneFirst, twoFirst}
 
 -- 60 60 60 60 | 70 70 70 70
 abbrev stepUp : Line
@@ -44,7 +44,7 @@ near-edge e = subst (λ (n : ℕ). T (eqb n 80)) (ap (λ (xs : Plane). getD xs 6
 abbrev stepDown : Plane
 stepDown = replicate 32 60 ++ replicate 32 70
 
-pub v-by-u : shortAt eight upper oneFirst thirty thirty 8 stepDown ≡ shortAt eight upper oneFirst thirty shut 8 stepDown → ⊥
+pub v-by-u : shortAt eight upper oneFirst thirty thirty 8 stepDown ≡ shortAt eight upper oneFirst thirty alphaOff 8 stepDown → ⊥
 unfolding upTo chromaAt chromaLine normalShort chromaNormal deltaOf clip3 clip1 tcBy
 v-by-u e = subst (λ (n : ℕ). T (eqb n 62)) (ap (λ (xs : Plane). getD xs 24 0) e) tt
 

@@ -6,8 +6,6 @@ use mathlib.Core.Bool.{Bool, true, false, cond}
 use Prim.Native.Nat.{ℕ, _+_, _-_, _≤_, _<_}
 use native.Mathlib.Nat.{le-trans}
 use native.Mathlib.Omega.{arith}
-use borrow.Author.Tests.{lt-ltb}
-use lib.Dec.{eqb}
 use lib.IntN.{ℤ, pos, natAbs, _+ℤ_, _-ℤ_}
 use Rattle.laws.specs.Clip.{clip1, dist}
 use Rattle.laws.proofs.Abs.{abs-near}
@@ -21,6 +19,7 @@ use Rattle.lines.specs.Chroma.{same, chromaNormal, chromaSamples, normal
 use Rattle.lines.specs.declared.chroma.Short.{Short}
 use Rattle.lines.specs.declared.luma.Six.{Six}
 use Rattle.lines.specs.declared.shared.Two.{Two}
+use Rattle.lines.proofs.Strengths.{tested-weak}
 use Rattle.lines.proofs.Unclipped.{delta-abs, nudge-abs}
 use Rattle.lines.proofs.Within.{LineIn, ShortIn}
 
@@ -72,8 +71,7 @@ normal-moves d beta tc0 l h =
 pub luma-moves : (d : Depth) (bs alpha beta tc0 : ℕ) (l : Line) → bs < 4 → LineIn (d .top) l → Moved tc0 l (lumaLine d bs alpha beta tc0 l)
 unfolding lumaLine normalLine
 luma-moves d bs alpha beta tc0 l b h =
-    simp (lt-ltb bs 4 b)
-    (cond-both (Moved tc0 l) (eqb bs 0) still (cond-both (Moved tc0 l) (lumaSamples alpha beta l) (normal-moves d beta tc0 l h) still))
+    tested-weak (Moved tc0 l) bs (lumaSamples alpha beta l) (kept l) _ _ b still (normal-moves d beta tc0 l h)
   where
     still : Moved tc0 l (kept l)
     still = record { p2 = refl; p1 = omega arith; p0 = omega arith; q0 = omega arith; q1 = omega arith; q2 = refl }
@@ -81,8 +79,7 @@ luma-moves d bs alpha beta tc0 l b h =
 pub chroma-moves : (d : Depth) (bs alpha beta tc0 : ℕ) (l : Short) → bs < 4 → ShortIn (d .top) l → MovedShort tc0 l (chromaLine d bs alpha beta tc0 l)
 unfolding chromaLine normalShort chromaNormal
 chroma-moves d bs alpha beta tc0 l b h =
-    simp (lt-ltb bs 4 b)
-    (cond-both (MovedShort tc0 l) (eqb bs 0) still (cond-both (MovedShort tc0 l) (chromaSamples alpha beta l) moves still))
+    tested-weak (MovedShort tc0 l) bs (chromaSamples alpha beta l) (same l) _ _ b still moves
   where
     still : MovedShort tc0 l (same l)
     still = record { p0 = omega arith; q0 = omega arith }

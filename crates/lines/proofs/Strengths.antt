@@ -31,6 +31,16 @@ module _ {A : Type 0} (bs : ℕ) (still normal strong : A) where
   pub at-any : (P : A → Type 0) → P still → P normal → P strong → P (byStrength bs still normal strong)
   at-any P a b c = cond-both P (eqb bs 0) a (cond-both P (ltb bs 4) b c)
 
+-- what holds of a line kept and of a line filtered, where a test decides
+pub tested-any : {A : Type 0} (P : A → Type 0) (bs : ℕ) (b : Bool) (still normal strong : A) → P still → P normal → P strong
+    → P (byStrength bs still (cond b normal still) (cond b strong still))
+tested-any P bs b still normal strong s n t = at-any bs still _ _ P s (cond-both P b n s) (cond-both P b t s)
+
+-- .. and below strength 4
+pub tested-weak : {A : Type 0} (P : A → Type 0) (bs : ℕ) (b : Bool) (still normal strong : A) → bs < 4 → P still → P normal
+    → P (byStrength bs still (cond b normal still) strong)
+tested-weak P bs b still normal strong h s n = simp (lt-ltb bs 4 h) (cond-both P (eqb bs 0) s (cond-both P b n s))
+
 -- ---- an alpha or a beta of 0 lets no line through
 pub shut : (alpha beta p1 p0 q0 q1 : ℕ) → (alpha ≡ 0) ⊎ (beta ≡ 0) → filterSamples alpha beta p1 p0 q0 q1 ≡ false
 shut alpha beta p1 p0 q0 q1 (inl e) = simp (le-ltb (dist p0 q0) alpha (omega arith))

@@ -4,7 +4,6 @@ use mathlib.Core.Bool.{Bool, _&&_}
 use mathlib.Core.List.{List, [], _∷_}
 use Prim.Native.Nat.{ℕ, _+_, _/_, _≤_}
 use native.Mathlib.Omega.{arith}
-use lib.Dec.{ltb, eqb}
 use lib.IntN.{pos, natAbs, _+ℤ_}
 use lib.ListN.{getD}
 use Rattle.laws.specs.Places.{Plane, places}
@@ -21,6 +20,7 @@ use Rattle.lines.specs.Planes.{toLine, fromSix, toShort, fromTwo, onLine
 use Rattle.lines.specs.declared.luma.Six.{Six}
 use Rattle.lines.specs.declared.luma.Side.{Side}
 use Rattle.lines.specs.declared.shared.Two.{Two}
+use Rattle.lines.proofs.Strengths.{tested-any}
 use Rattle.lines.proofs.Unclipped.{inner-lands}
 
 -- no sample of the line is above top
@@ -95,10 +95,7 @@ strong-in top alpha beta l h =
 pub luma-in : (d : Depth) (bs alpha beta tc0 : ℕ) (l : Line) → LineIn (d .top) l → SixIn (d .top) (lumaLine d bs alpha beta tc0 l)
 unfolding lumaLine normalLine strongLine
 luma-in d bs alpha beta tc0 l h =
-    cond-both (SixIn (d .top)) (eqb bs 0) stays
-    (cond-both (SixIn (d .top)) (ltb bs 4)
-    (cond-both (SixIn (d .top)) (lumaSamples alpha beta l) (normal-in d beta tc0 l h) stays)
-    (cond-both (SixIn (d .top)) (lumaSamples alpha beta l) (strong-in (d .top) alpha beta l h) stays))
+    tested-any (SixIn (d .top)) bs (lumaSamples alpha beta l) (kept l) _ _ stays (normal-in d beta tc0 l h) (strong-in (d .top) alpha beta l h)
   where
     stays : SixIn (d .top) (kept l)
     stays = record { p2 = h .p2; p1 = h .p1; p0 = h .p0; q0 = h .q0; q1 = h .q1; q2 = h .q2 }
@@ -107,13 +104,8 @@ luma-in d bs alpha beta tc0 l h =
 pub chroma-in : (d : Depth) (bs alpha beta tc0 : ℕ) (l : Short) → ShortIn (d .top) l → TwoIn (d .top) (chromaLine d bs alpha beta tc0 l)
 unfolding chromaLine normalShort strongShort chromaNormal chromaStrong
 chroma-in d bs alpha beta tc0 l h =
-    cond-both (TwoIn (d .top)) (eqb bs 0) stays
-    (cond-both (TwoIn (d .top)) (ltb bs 4)
-    (cond-both (TwoIn (d .top)) (chromaSamples alpha beta l) (record { p0 = clip1-le (d .top) _; q0 = clip1-le (d .top) _ }) stays)
-    (cond-both (TwoIn (d .top)) (chromaSamples alpha beta l) (record { p0 = omega arith; q0 = omega arith }) stays))
-  where
-    stays : TwoIn (d .top) (same l)
-    stays = record { p0 = h .p0; q0 = h .q0 }
+    tested-any (TwoIn (d .top)) bs (chromaSamples alpha beta l) (same l) _ _ (record { p0 = h .p0; q0 = h .q0 })
+    (record { p0 = clip1-le (d .top) _; q0 = clip1-le (d .top) _ }) (record { p0 = omega arith; q0 = omega arith })
 
 -- ---- on planes
 pub lumaAt-within : (top : ℕ) (f : Line → Six) → ((l : Line) → LineIn top l → SixIn top (f l)) → (at step : ℕ) (xs : Plane) → Within top xs → Within top (lumaAt f at step xs)

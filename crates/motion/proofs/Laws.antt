@@ -5,9 +5,9 @@ use mathlib.Core.List.{List, [], _∷_, _++_}
 use Prim.Native.Nat.{ℕ, _≤_}
 use native.Mathlib.Omega.{arith}
 use lib.Dec.{T, lit≤}
+use lib.IntN.{ℤ}
 use mir.Facts.{and-yes}
 use Rattle.laws.proofs.Cond.{cond-both}
-use Rattle.motion.specs.Grids.{Grids}
 use Rattle.motion.specs.Inner.{Hold}
 use Rattle.motion.specs.Motion.{motion0, motion1, ifUsed, used, mate, paired, mismatched, differ, interStrength, equalMotion, sameMotion}
 use Rattle.laws.specs.Equal.{eqZ}
@@ -92,23 +92,22 @@ unfolding differ
 differ-comm v p q = turned v (used-short p) (used-short q)
 
 -- ---- the strength
-pub strength-le : (v : ℕ) (p q : Blk) → interStrength v p q ≤ 2
+pub strength-le : (v : ℕ) (coded : Bool) (p q : Blk) → interStrength v coded p q ≤ 2
 unfolding interStrength
-strength-le v p q =
-    cond-both (λ (n : ℕ). n ≤ 2) (p .nz || q .nz) (lit≤ tt)
+strength-le v coded p q =
+    cond-both (λ (n : ℕ). n ≤ 2) coded (lit≤ tt)
     (cond-both (λ (n : ℕ). n ≤ 2) (differ v p q) (lit≤ tt) (lit≤ tt))
 
 -- no 1 within a uniform macroblock
-pub strength-same : (v : ℕ) (p q : Blk) → T (sameMotion p q) → interStrength v p q ≡ cond (p .nz || q .nz) 2 0
+pub strength-same : (v : ℕ) (coded : Bool) (p q : Blk) → T (sameMotion p q) → interStrength v coded p q ≡ cond coded 2 0
 unfolding interStrength
-strength-same v p q t = simp (differ-same v p q t)
+strength-same v coded p q t = simp (differ-same v p q t)
 
 -- ---- grids that hold n blocks hold fewer
-pub hold-less : {g : Grids} {m n : ℕ} → Hold g n → m ≤ n → Hold g m
+pub hold-less : {inter : List ℕ} {ref0 mv0 ref1 mv1 : List ℤ} {m n : ℕ} → Hold inter ref0 mv0 ref1 mv1 n → m ≤ n → Hold inter ref0 mv0 ref1 mv1 m
 hold-less w h =
     record {
       inters = omega arith;
-      counts = omega arith;
       refs = omega arith;
       vectors = omega arith;
       list1 = record { empty = w .list1 .empty; full = λ k. omega (arith, w .list1 .full k) };

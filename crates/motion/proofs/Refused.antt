@@ -1,17 +1,18 @@
 -- Wrong rules, each shown to differ from the right one at a small input. Assumes nothing.
-use mathlib.Core.Path.{_≡_}
-use mathlib.Core.Bool.{Bool, true, false, cond, not, _||_, true≢false, false≢true}
+use mathlib.Core.Path.{_≡_, ap}
+use mathlib.Core.Bool.{Bool, true, false, not, _||_, true≢false, false≢true}
 use mathlib.Core.List.{List, [], _∷_}
-use Prim.Native.Nat.{ℕ}
-use native.Mathlib.Omega.{arith}
-use lib.IntN.{ℤ, pos, negsuc, _-ℤ_}
+use Prim.Native.Nat.{ℕ, suc}
+use lib.Dec.{eqb}
+use lib.IntN.{ℤ, pos, negsuc, negℤ, _-ℤ_}
+use lib.ListN.{getD}
 use lib.Signed.{ltZ}
 use mir.Syntax.{w16}
 use mir.Val.{toZ, ofZ}
 use Rattle.motion.specs.Cases.{moving, noMotion, interBlock, straight, crossed, twice}
 use Rattle.motion.specs.Far.{outside}
-use Rattle.motion.specs.Grids.{blockOf}
-use Rattle.motion.specs.Motion.{motion0, ifUsed, used, mate, inOrder, references, mismatched, differ, interStrength}
+use Rattle.motion.specs.Grids.{Grids, grids, motionAt, blockOf, blockRead, blkAt}
+use Rattle.motion.specs.Motion.{motion0, motion1, isUsed, ifUsed, used, mate, inOrder, references, mismatched, differ}
 use Rattle.motion.specs.Sets.{sameSet}
 use Rattle.motion.specs.declared.blocks.Blk.{Blk}
 use Rattle.motion.specs.declared.blocks.Motion.{Motion}
@@ -23,6 +24,14 @@ oneSide m d = ltZ (pos m) d
 pub not-one-side : oneSide 3 (negsuc 3) ≡ outside 3 (negsuc 3) → ⊥
 unfolding outside
 not-one-side = false≢true
+
+-- far above from m + 2 on: 4
+abbrev late : ℕ → ℤ → Bool
+late m d = ltZ d (negℤ (pos m)) || ltZ (pos (suc m)) d
+
+pub not-late : late 3 (pos 4) ≡ outside 3 (pos 4) → ⊥
+unfolding outside
+not-late = false≢true
 
 -- a difference that wraps as an i16 does: -32,768 against 32,767
 abbrev wrapped : ℕ → ℤ → Bool
@@ -49,6 +58,17 @@ pub not-list0-only :
 unfolding differ mismatched used outside
 not-list0-only = false≢true
 
+-- list 0's motion read for list 1's too: a block that uses list 1 alone
+abbrev list0Twice : Grids → ℕ → Blk
+list0Twice g i = blockOf (eqb (getD (g .inter) i 0) 1) (motionAt (g .ref0) (g .mv0) i) (motionAt (g .ref0) (g .mv0) i)
+
+abbrev list1Alone : Grids
+list1Alone = grids (1 ∷ []) (0 ∷ []) (negsuc 0 ∷ []) (pos 0 ∷ pos 0 ∷ []) (pos 3 ∷ []) (pos 0 ∷ pos 0 ∷ [])
+
+pub not-list0-twice : list0Twice list1Alone 0 ≡ blkAt list1Alone 0 → ⊥
+unfolding blockRead
+not-list0-twice e = false≢true (ap (λ (b : Blk). isUsed (motion1 b)) e)
+
 -- the number of used references ignored: one against the same and another
 abbrev uncounted : ℕ → List Motion → List Motion → Bool
 uncounted v [] q = false
@@ -66,11 +86,3 @@ setsOnly v p q = not (sameSet (references (used p)) (references (used q)))
 pub not-sets-only : setsOnly 3 (twice (pos 0) (pos 8)) (twice (pos 8) (pos 4)) ≡ differ 3 (twice (pos 0) (pos 8)) (twice (pos 8) (pos 4)) → ⊥
 unfolding differ mismatched used outside
 not-sets-only = false≢true
-
--- one block's coefficients ignored: a still block with some beside one with none
-abbrev oneCount : ℕ → Blk → Blk → ℕ
-oneCount v p q = cond (q .nz) 2 (cond (differ v p q) 1 0)
-
-pub not-one-count : oneCount 3 (blockOf true true (moving 5 (pos 0)) noMotion) (interBlock (moving 5 (pos 0)) noMotion) ≡ interStrength 3 (blockOf true true (moving 5 (pos 0)) noMotion) (interBlock (moving 5 (pos 0)) noMotion) → ⊥
-unfolding interStrength differ mismatched used outside
-not-one-count e = let k : _≡_ {A = ℕ} 0 2 = e in omega arith

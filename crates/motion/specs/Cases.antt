@@ -18,7 +18,7 @@ abbrev pub noMotion : Motion
 noMotion = record { reference = negsuc 0; x = pos 0; y = pos 0 }
 
 abbrev pub interBlock : Motion → Motion → Blk
-interBlock m n = blockOf true false m n
+interBlock m n = blockOf true m n
 
 -- P10's two blocks use the same two pictures, each by the other's list
 abbrev pub straight : Blk
@@ -33,11 +33,11 @@ twice x y = interBlock (moving 5 x) (moving 5 y)
 
 -- P9's strength at the difference d
 abbrev pub strengthApart : ℤ → ℕ
-strengthApart d = interStrength 3 (interBlock (moving 2 d) noMotion) (interBlock (moving 2 (pos 0)) noMotion)
+strengthApart d = interStrength 3 false (interBlock (moving 2 d) noMotion) (interBlock (moving 2 (pos 0)) noMotion)
 
 abbrev pub motionCases : List Case
 motionCases =
     record { number = 9; given = map strengthApart (negsuc 3 ∷ negsuc 2 ∷ pos 3 ∷ pos 4 ∷ []); paper = 1 ∷ 0 ∷ 0 ∷ 1 ∷ [] }
-    ∷ record { number = 10; given = interStrength 3 straight crossed ∷ []; paper = 0 ∷ [] }
-    ∷ record { number = 11; given = interStrength 3 (twice (pos 0) (pos 8)) (twice (pos 8) (pos 4)) ∷ []; paper = 1 ∷ [] }
+    ∷ record { number = 10; given = interStrength 3 false straight crossed ∷ []; paper = 0 ∷ [] }
+    ∷ record { number = 11; given = interStrength 3 false (twice (pos 0) (pos 8)) (twice (pos 8) (pos 4)) ∷ []; paper = 1 ∷ [] }
     ∷ []

@@ -22,26 +22,32 @@ pub record Grids : Type 0 where
 abbrev pub grids : List ℕ → List ℕ → List ℤ → List ℤ → List ℤ → List ℤ → Grids
 grids inters counts r m s n = record { inter = inters; nnz = counts; ref0 = r; mv0 = m; ref1 = s; mv1 = n }
 
--- ---- block i. An empty list holds no reference and the vector 0
+-- block i is coded: it has coefficients
+abbrev pub coded : Grids → ℕ → Bool
+coded g i = not (eqb (getD (g .nnz) i 0) 0)
+
+-- ---- the motion of block i. An empty list holds no reference and the vector 0
 abbrev pub refAt : List ℤ → ℕ → ℤ
 refAt refs i = getD refs i (negsuc 0)
+
+-- the picture that a reference names: document 01 compares references as the numbers that are stored
+abbrev pub namedBy : ℤ → ℤ
+namedBy r = r
 
 -- the reference r with its vector
 abbrev pub vectorAt : ℤ → List ℤ → ℕ → Motion
 vectorAt r mvs i = record { reference = r; x = getD mvs (2 * i) (pos 0); y = getD mvs (2 * i + 1) (pos 0) }
 
 abbrev pub motionAt : List ℤ → List ℤ → ℕ → Motion
-motionAt refs mvs i = vectorAt (refAt refs i) mvs i
+motionAt refs mvs i = vectorAt (namedBy (refAt refs i)) mvs i
 
 -- a block of what each list holds
-abbrev pub blockOf : Bool → Bool → Motion → Motion → Blk
-blockOf s t m n =
-    record { inter = s; nz = t; ref0 = m .reference; mv0x = m .x; mv0y = m .y; ref1 = n .reference; mv1x = n .x; mv1y = n .y }
+abbrev pub blockOf : Bool → Motion → Motion → Blk
+blockOf inter m n = record { inter = inter; ref0 = m .reference; mv0x = m .x; mv0y = m .y; ref1 = n .reference; mv1x = n .x; mv1y = n .y }
 
-unfoldable pub blkAt : Grids → ℕ → Blk
-blkAt g i =
-    blockOf
-    (eqb (getD (g .inter) i 0) 1)
-    (not (eqb (getD (g .nnz) i 0) 0))
-    (motionAt (g .ref0) (g .mv0) i)
-    (motionAt (g .ref1) (g .mv1) i)
+-- block i of the grids but nnz, and of all of them
+unfoldable pub blockRead : List ℕ → List ℤ → List ℤ → List ℤ → List ℤ → ℕ → Blk
+blockRead inter ref0 mv0 ref1 mv1 i = blockOf (eqb (getD inter i 0) 1) (motionAt ref0 mv0 i) (motionAt ref1 mv1 i)
+
+abbrev pub blkAt : Grids → ℕ → Blk
+blkAt g i = blockRead (g .inter) (g .ref0) (g .mv0) (g .ref1) (g .mv1) i

@@ -5,20 +5,18 @@ use mathlib.Core.Path.{_≡_}
 use mathlib.Core.List.{List}
 use lib.IntN.{ℤ}
 use lib.ListN.{length, take, drop}
-use Rattle.motion.specs.Grids.{Grids}
 
 -- list 1's two grids are both empty, or both hold n blocks
 pub record Optional (refs mvs : List ℤ) (n : ℕ) : Type 0 where
   pub empty : length refs ≡ 0 → length mvs ≡ 0
   pub full : 0 < length refs → (n ≤ length refs) × (2 * n ≤ length mvs)
 
--- the grids hold n blocks
-pub record Hold (g : Grids) (n : ℕ) : Type 0 where
-  pub inters : n ≤ length (g .inter)
-  pub counts : n ≤ length (g .nnz)
-  pub refs : n ≤ length (g .ref0)
-  pub vectors : 2 * n ≤ length (g .mv0)
-  pub list1 : Optional (g .ref1) (g .mv1) n
+-- the grids that a block's motion is read from hold n blocks
+pub record Hold (inter : List ℕ) (ref0 mv0 ref1 mv1 : List ℤ) (n : ℕ) : Type 0 where
+  pub inters : n ≤ length inter
+  pub refs : n ≤ length ref0
+  pub vectors : 2 * n ≤ length mv0
+  pub list1 : Optional ref1 mv1 n
 
 -- the two numbers of block i's vector, as part of the grid
 abbrev pub pairAt : List ℤ → ℕ → List ℤ

@@ -65,9 +65,9 @@ mismatched v p q =
 unfoldable pub differ : ℕ → Blk → Blk → Bool
 differ v p q = mismatched v (used p) (used q)
 
--- ---- 2 if either has a coefficient, else 1 if their motion differs, else 0
-unfoldable pub interStrength : ℕ → Blk → Blk → ℕ
-interStrength v p q = cond (p .nz || q .nz) 2 (cond (differ v p q) 1 0)
+-- ---- 2 if either is coded, else 1 if their motion differs, else 0
+unfoldable pub interStrength : ℕ → Bool → Blk → Blk → ℕ
+interStrength v coded p q = cond coded 2 (cond (differ v p q) 1 0)
 
 -- ---- the same motion: equal references and vectors in both lists, used or not
 abbrev pub equalMotion : Motion → Motion → Bool

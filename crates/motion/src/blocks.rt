@@ -6,11 +6,9 @@ ghost use Rattle.motion.specs.Motion.{motion0, motion1, isUsed, used, ma
 ghost use Rattle.motion.specs.Listed.{slotsOf, Listed};
 use crate::vectors::far;
 
-// A 4x4 block: inter-coded or not, with coefficients or not, and of each list a reference, below 0 for none,
-// and a vector.
+// A 4x4 block: inter or not, and of each list a reference, below 0 for none, and a vector.
 pub struct Blk {
     pub inter: bool,
-    pub nz: bool,
     pub ref0: i32,
     pub mv0x: i16,
     pub mv0y: i16,
@@ -120,11 +118,11 @@ pub fn bs1_tile(vertical: u8, p: Blk, q: Blk) -> bool
     !paired(vertical, a, b)
 }
 
-// The strength between two inter blocks: 2, 1 or 0.
-pub fn bs_inter(vertical: u8, p: Blk, q: Blk) -> u8
-    ensures { λ r. ⌜ r ≡ interStrength vertical p q ⌝ }
+// The strength between two inter blocks, of which `coded` says whether one has coefficients: 2, 1 or 0.
+pub fn bs_inter(vertical: u8, coded: bool, p: Blk, q: Blk) -> u8
+    ensures { λ r. ⌜ r ≡ interStrength vertical coded p q ⌝ }
 {
-    if p.nz | q.nz {
+    if coded {
         return 2;
     }
     if bs1_tile(vertical, p, q) {

@@ -4,7 +4,7 @@ ghost use mathlib.Core.Path.{_≡_};
 ghost use mathlib.Core.Bool.{cond};
 ghost use Prim.Native.Nat.{_+_, _*_, _<_, _≤_};
 ghost use lib.ListN.{length};
-ghost use Rattle.motion.specs.Grids.{grids, refAt, vectorAt, motionAt, blockOf, blkAt};
+ghost use Rattle.motion.specs.Grids.{refAt, vectorAt, motionAt, blockOf, blockRead};
 ghost use Rattle.motion.specs.Inner.{Optional, Hold, pairAt};
 use crate::blocks::Blk;
 use crate::blocks::Motion;
@@ -73,12 +73,11 @@ fn list1<'a>(ref1: &[i8], mv0: &'a [i16], mv1: &'a [i16], i: usize) -> Motion
 }
 
 // A block of what each list holds.
-fn block_of(inter: bool, nz: bool, m: Motion, n: Motion) -> Blk
-    ensures { λ r. ⌜ r ≡ blockOf inter nz m n ⌝ }
+fn block_of(inter: bool, m: Motion, n: Motion) -> Blk
+    ensures { λ r. ⌜ r ≡ blockOf inter m n ⌝ }
 {
     Blk {
         inter,
-        nz,
         ref0: m.reference,
         mv0x: m.x,
         mv0y: m.y,
@@ -91,18 +90,16 @@ fn block_of(inter: bool, nz: bool, m: Motion, n: Motion) -> Blk
 // Block i of the grids.
 pub fn load<'a>(
     inter: &[u8],
-    nnz: &[u8],
     ref0: &[i8],
     mv0: &'a [i16],
     ref1: &[i8],
     mv1: &'a [i16],
     i: usize,
 ) -> Blk
-    requires { ⌜ Hold (grids (now inter) (now nnz) (now ref0) (now mv0) (now ref1) (now mv1)) (i + 1) ⌝ }
-    ensures { λ r. ⌜ r ≡ blkAt (grids (now (inter .entry)) (now (nnz .entry)) (now (ref0 .entry))
-        (now (mv0 .entry)) (now (ref1 .entry)) (now (mv1 .entry))) i ⌝ }
+    requires { ⌜ Hold (now inter) (now ref0) (now mv0) (now ref1) (now mv1) (i + 1) ⌝ }
+    ensures { λ r. ⌜ r ≡ blockRead (now (inter .entry)) (now (ref0 .entry)) (now (mv0 .entry)) (now (ref1 .entry)) (now (mv1 .entry)) i ⌝ }
 {
     let m = list0(ref0, mv0, mv1, i);
     let n = list1(ref1, mv0, mv1, i);
-    block_of(inter[i] == 1, nnz[i] != 0, m, n)
+    block_of(inter[i] == 1, m, n)
 }

@@ -71,11 +71,10 @@ fn chroma(name: &[u8], bs: u8, tc0: u8, a: u8, b: u8) {
     text(b"\n");
 }
 
-// An inter block with no coefficients: of each list a reference, -1 for none, and a horizontal vector.
+// An inter block: of each list a reference, -1 for none, and a horizontal vector.
 fn block(ref0: i32, x0: i16, ref1: i32, x1: i16) -> Blk {
     Blk {
         inter: true,
-        nz: false,
         ref0,
         mv0x: x0,
         mv0y: 0,
@@ -85,9 +84,9 @@ fn block(ref0: i32, x0: i16, ref1: i32, x1: i16) -> Blk {
     }
 }
 
-// The strength between two such blocks, at the vertical 3 of frames.
+// The strength between two such blocks with no coefficients, at the vertical 3 of frames.
 fn strength(p: Blk, q: Blk) {
-    number(bs_inter(3, p, q));
+    number(bs_inter(3, false, p, q));
 }
 
 // One reference, and vectors that differ by x.

@@ -20,8 +20,9 @@ use Rattle.strengths.specs.Calls.{PlainOutcome}
 use Rattle.pictures.specs.Checks.{lent}
 use Rattle.pictures.specs.Rows.{FrameOutcome}
 use Rattle.pictures.specs.Standard.{ofIndex, strengthsOf, pictureOf, Derived}
-use Rattle.strengths.specs.Strength.{written}
+use Rattle.strengths.specs.Strength.{frame, written}
 use Rattle.strengths.specs.declared.kinds.Plain.{Plain}
+use Rattle.strengths.proofs.Before.{flag-before}
 use Rattle.pictures.proofs.Left.{whole}
 use Rattle.strengths.proofs.Written.{written-length, written-at, written-beside}
 
@@ -59,7 +60,11 @@ module _ (g : Grids) (size : Size) (t8s : List ℕ) where
   module _ (s : ℕ → List ℕ) (room : length (s 0) ≡ 32 * (size .w * size .h))
       (calls : (i : ℕ) → i < size .w * size .h → PlainOutcome size (asked i) g (s i) 0 (s (i + 1))) where
     step : (i : ℕ) → i < size .w * size .h → s (suc i) ≡ written i (ofIndex g size t8s i) (s i)
-    step i h = ap s (omega arith) ∙ calls i h .leaves ∙ ap (λ (n : ℕ). written n (ofIndex g size t8s i) (s i)) (div-add-mod' i (size .w))
+    step i h =
+        let e = div-add-mod' i (size .w) in
+        ap s (omega arith)
+        ∙ calls i h .leaves
+        ∙ (λ j. written (e j) (flag-before frame g (size .w) (flagAt t8s) (i % size .w) (i / size .w) (ap (flagAt t8s) (sym e)) j) (s i))
 
     filled : (n : ℕ) → n ≤ size .w * size .h → length (s n) ≡ 32 * (size .w * size .h)
     filled zero h = room

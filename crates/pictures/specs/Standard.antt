@@ -10,11 +10,11 @@ use Rattle.motion.specs.Grids.{Grids}
 use Rattle.edges.specs.Picture.{Planes, Held, flagAt, heldBy, frameOf}
 use Rattle.edges.specs.declared.Offsets.{Offsets}
 use Rattle.edges.specs.declared.Size.{Size}
-use Rattle.strengths.specs.Strength.{strengthAt}
+use Rattle.strengths.specs.Strength.{frame, strengthAt}
 
 -- byte k of the macroblock of index i; outside the picture there is none
 abbrev pub ofIndex : Grids → Size → List ℕ → ℕ → ℕ → ℕ
-ofIndex g size t8s i k = strengthAt g (size .w) (flagAt t8s i) (i % size .w) (i / size .w) k
+ofIndex g size t8s i k = strengthAt frame g (size .w) (flagAt t8s) (i % size .w) (i / size .w) k
 
 unfoldable pub strengthsOf : Grids → Size → List ℕ → ℕ → ℕ
 strengthsOf g size t8s k = cond (ltb k (32 * (size .w * size .h))) (ofIndex g size t8s (k / 32) (k % 32)) 0

@@ -10,8 +10,8 @@ use Rattle.laws.specs.Loop.{upTo}
 use Rattle.laws.specs.Some.{every}
 use Rattle.edges.specs.declared.Size.{Size}
 use Rattle.motion.specs.Grids.{Grids}
-use Rattle.strengths.specs.Calls.{answerOf}
-use Rattle.strengths.specs.Strength.{strengthAt, written}
+use Rattle.strengths.specs.Calls.{answerOf, oneFlag}
+use Rattle.strengths.specs.Strength.{frame, strengthAt, written}
 use Rattle.recordings.specs.Places.{columnAt, rowAt}
 
 module _ (size : Size) (g : Grids) (t8s : List ℕ) where
@@ -26,7 +26,7 @@ module _ (size : Size) (g : Grids) (t8s : List ℕ) where
       (served (length s) i)
       (written
       (rowAt i (size .w) * size .w + columnAt i (size .w))
-      (strengthAt g (size .w) (not (eqb (getD t8s i 0) 0)) (columnAt i (size .w)) (rowAt i (size .w)))
+      (strengthAt frame g (size .w) (oneFlag (not (eqb (getD t8s i 0) 0))) (columnAt i (size .w)) (rowAt i (size .w)))
       s)
       s
 

@@ -10,15 +10,16 @@ use lib.Dec.{T, eqb, ltb}
 use Rattle.laws.proofs.Bools.{and-true}
 use Rattle.laws.specs.Some.{every}
 use Rattle.laws.proofs.Some.{every-at}
-use Rattle.motion.specs.Grids.{Grids, blkAt}
+use Rattle.motion.specs.Grids.{Grids, coded, blkAt}
 use Rattle.motion.specs.Motion.{interStrength, sameMotion}
 use Rattle.motion.proofs.Laws.{same-join, strength-same}
 use Rattle.motion.specs.declared.blocks.Blk.{Blk}
 use Rattle.strengths.specs.Blocks.{origin, ownBlock}
 use Rattle.strengths.specs.Checks.{disagree}
-use Rattle.strengths.specs.Strength.{vertical, edge, segment, qRow, qColumn, qBlock, pBlock, border, skipped, between, strengthAt}
+use Rattle.strengths.specs.Strength.{vertical, edge, segment, qRow, qColumn, qBlock, pBlock, border, skipped, outerIntra, between, strengthAt}
 use Rattle.strengths.specs.Kinds.{everyOwn, uniform, flat, isKind}
 use Rattle.strengths.specs.ByKind.{firstInter, inside, acrossBy, strengthBy}
+use Rattle.strengths.specs.declared.kinds.Mode.{Mode}
 use Rattle.strengths.specs.declared.kinds.MbKind.{MbKind}
 use Rattle.strengths.specs.declared.kinds.MbKind.the-variants.{Intra, Skip, InterUniform, Inter}
 use Rattle.strengths.proofs.InterAgrees.{own-inter, inter-is, intra-is}
@@ -55,49 +56,50 @@ p-own w x y k n = go (vertical k)
     go false = record { r = edge k - 1; c = segment k; row = omega (arith, four (k / 4)); col = four k; is = omega (arith, up) }
 
 -- ---- what is true of every own block is true of each
-at : (g : Grids) (w x y i : ℕ) (f : Blk → Bool) → everyOwn g w x y f ≡ true → Own w x y i → f (blkAt g i) ≡ true
-at g w x y i f e o = ap (λ (n : ℕ). f (blkAt g n)) (o .is) ∙ every-at 4 (o .c) _ (every-at 4 (o .r) _ e (o .row)) (o .col)
+at : (w x y i : ℕ) (f : ℕ → Bool) → everyOwn w x y f ≡ true → Own w x y i → f i ≡ true
+at w x y i f e o = ap f (o .is) ∙ every-at 4 (o .c) _ (every-at 4 (o .r) _ e (o .row)) (o .col)
 
 true→T : {b : Bool} → b ≡ true → T b
 true→T e = subst T (sym e) tt
 
 -- two inter blocks of the same motion
-same-inside : (p q : Blk) → p .inter ≡ true → q .inter ≡ true → T (sameMotion p q) → between false p q ≡ cond (p .nz || q .nz) 2 0
+same-inside : (v n : ℕ) (c : Bool) (p q : Blk) → p .inter ≡ true → q .inter ≡ true → T (sameMotion p q) → between v n c p q ≡ cond c 2 0
 unfolding between
-same-inside p q h k t = simp (h, k, strength-same 3 p q t)
-
-uncoded : (s t : Bool) → s ≡ false → t ≡ false → _≡_ {A = ℕ} (cond (s || t) 2 0) 0
-uncoded s t a b = λ i. cond (a i || b i) 2 0
+same-inside v n c p q h k t = simp (h, k, strength-same v c p q t)
 
 module _ (g : Grids) (w x y : ℕ) (agree : disagree (g .inter) w x y ≡ false) where
   inter-of : (i : ℕ) → Own w x y i → blkAt g i .inter ≡ firstInter (g .inter) w x y
   inter-of i o = ap (λ (n : ℕ). blkAt g n .inter) (o .is) ∙ own-inter g w x y agree (o .r) (o .c) (o .row) (o .col)
 
-  uniform-inside : uniform g w x y ≡ true → (i j : ℕ) → Own w x y i → Own w x y j
-      → between false (blkAt g i) (blkAt g j) ≡ cond (blkAt g i .nz || blkAt g j .nz) 2 0
+  uniform-inside : uniform g w x y ≡ true → (v n : ℕ) (c : Bool) (i j : ℕ) → Own w x y i → Own w x y j
+      → between v n c (blkAt g i) (blkAt g j) ≡ cond c 2 0
   unfolding uniform
-  uniform-inside u i j o p =
-      let a = and-true _ _ (at g w x y i (λ b. b .inter && sameMotion b (blkAt g (origin w x y))) u o) in
-      let b = and-true _ _ (at g w x y j (λ b. b .inter && sameMotion b (blkAt g (origin w x y))) u p) in
-      same-inside (blkAt g i) (blkAt g j) (a .0) (b .0) (same-join (blkAt g i) (blkAt g j) (blkAt g (origin w x y)) (true→T (a .1)) (true→T (b .1)))
+  uniform-inside u v n c i j o p =
+      let f : ℕ → Bool = λ k. blkAt g k .inter && sameMotion (blkAt g k) (blkAt g (origin w x y)) in
+      let a = and-true _ _ (at w x y i f u o) in
+      let b = and-true _ _ (at w x y j f u p) in
+      same-inside v n c (blkAt g i) (blkAt g j) (a .0) (b .0) (same-join (blkAt g i) (blkAt g j) (blkAt g (origin w x y)) (true→T (a .1)) (true→T (b .1)))
 
-  inside-is : (kind : MbKind) → isKind g w x y kind ≡ true → (i j : ℕ) → Own w x y i → Own w x y j
-      → inside kind (blkAt g i) (blkAt g j) ≡ between false (blkAt g i) (blkAt g j)
+  inside-is : (kind : MbKind) → isKind g w x y kind ≡ true → (v i j : ℕ) → Own w x y i → Own w x y j
+      → inside kind v (coded g i || coded g j) (blkAt g i) (blkAt g j) ≡ between v 3 (coded g i || coded g j) (blkAt g i) (blkAt g j)
   unfolding between flat
-  inside-is Intra e i j o p = let f = not-true _ (sym (intra-is g w x y agree) ∙ e) in simp (inter-of i o ∙ f)
-  inside-is Inter e i j o p = let f = sym (inter-is g w x y agree) ∙ e in simp (inter-of i o ∙ f, inter-of j p ∙ f)
-  inside-is InterUniform e i j o p = sym (uniform-inside e i j o p)
-  inside-is Skip e i j o p =
-      let u = and-true (uniform g w x y) (everyOwn g w x y (λ b. not (b .nz))) e in
-      let a = not-true (blkAt g i .nz) (at g w x y i (λ b. not (b .nz)) (u .1) o) in
-      let b = not-true (blkAt g j .nz) (at g w x y j (λ b. not (b .nz)) (u .1) p) in
-      sym (uniform-inside (u .0) i j o p ∙ uncoded (blkAt g i .nz) (blkAt g j .nz) a b)
+  inside-is Intra e v i j o p = let f = not-true _ (sym (intra-is g w x y agree) ∙ e) in simp (inter-of i o ∙ f)
+  inside-is Inter e v i j o p = let f = sym (inter-is g w x y agree) ∙ e in simp (inter-of i o ∙ f, inter-of j p ∙ f)
+  inside-is InterUniform e v i j o p = sym (uniform-inside e v 3 (coded g i || coded g j) i j o p)
+  inside-is Skip e v i j o p =
+      let u = and-true (uniform g w x y) (everyOwn w x y (λ k. not (coded g k))) e in
+      let a = not-true (coded g i) (at w x y i (λ k. not (coded g k)) (u .1) o) in
+      let b = not-true (coded g j) (at w x y j (λ k. not (coded g k)) (u .1) p) in
+      sym (uniform-inside (u .0) v 3 (coded g i || coded g j) i j o p ∙ (λ k. cond (a k || b k) 2 0))
 
-  -- a true kind gives the strengths of the standard
-  pub kind-is : (kind : MbKind) → isKind g w x y kind ≡ true → (t8 : Bool) (k : ℕ) → strengthBy kind g w t8 x y k ≡ strengthAt g w t8 x y k
+  -- a true kind gives the strengths of the standard, in any mode
+  pub kind-is : (kind : MbKind) → isKind g w x y kind ≡ true → (mode : Mode) (t8s : ℕ → Bool) (k : ℕ)
+      → strengthBy kind mode g w (t8s (y * w + x)) x y k ≡ strengthAt mode g w t8s x y k
   unfolding strengthBy strengthAt
-  kind-is kind e t8 k = ap (λ (n : ℕ). cond (border x y k || skipped t8 k) 0 n) (go (eqb (edge k) 0) refl)
+  kind-is kind e mode t8s k = ap (λ (n : ℕ). cond (border x y k || skipped (t8s (y * w + x)) k) 0 n) (go (eqb (edge k) 0) refl)
     where
-      go : (b : Bool) → eqb (edge k) 0 ≡ b → acrossBy kind b (blkAt g (pBlock w x y k)) (blkAt g (qBlock w x y k)) ≡ between b (blkAt g (pBlock w x y k)) (blkAt g (qBlock w x y k))
+      go : (b : Bool) → eqb (edge k) 0 ≡ b
+          → acrossBy kind mode b (vertical k) (coded g (pBlock w x y k) || coded g (qBlock w x y k)) (blkAt g (pBlock w x y k)) (blkAt g (qBlock w x y k))
+          ≡ between (mode .limit) (cond b (outerIntra mode (vertical k)) 3) (coded g (pBlock w x y k) || coded g (qBlock w x y k)) (blkAt g (pBlock w x y k)) (blkAt g (qBlock w x y k))
       go true f = refl
-      go false f = inside-is kind e (pBlock w x y k) (qBlock w x y k) (p-own w x y k (eqb-false (edge k) 0 f)) (q-own w x y k)
+      go false f = inside-is kind e (mode .limit) (pBlock w x y k) (qBlock w x y k) (p-own w x y k (eqb-false (edge k) 0 f)) (q-own w x y k)

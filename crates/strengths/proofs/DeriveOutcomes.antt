@@ -1,36 +1,33 @@
 -- The ways out of a strength call, as its promise has them; and that the promise allows one outcome only.
 -- Assumes nothing.
 use mathlib.Core.Path.{_≡_, refl, sym, ap, _∙_}
-use mathlib.Core.Bool.{Bool, true, false, cond, not, _&&_, _||_}
+use mathlib.Core.Bool.{Bool, true, false, cond}
 use mathlib.Core.List.{List, [], _∷_, _++_}
 use Prim.Native.Nat.{ℕ, _+_, _*_}
 use native.Mathlib.Decide.{ℕ-discrete}
-use borrow.Author.Tests.{eq-eqb, ne-eqb, not-false}
+use borrow.Author.Tests.{eq-eqb, ne-eqb}
 use lib.Dec.{eqb}
 use lib.ListN.{length}
 use Rattle.laws.specs.Refusal.{refusal}
 use Rattle.laws.proofs.Refusal.{passes, refusal-cut, refusal-left}
 use Rattle.motion.specs.Grids.{Grids}
 use Rattle.strengths.specs.Checks.{disagree}
-use Rattle.strengths.specs.Strength.{strengthAt, written}
-use Rattle.strengths.specs.Kinds.{uniform, flat, isKind}
-use Rattle.strengths.specs.ByKind.{firstInter, strengthBy, kindOf}
-use Rattle.strengths.specs.Calls.{lengthChecks, blockChecks, deriveChecks, answerOf, untrueKind, untrueFlags, DeriveOutcome, KindOutcome, FlagsOutcome, PlainOutcome}
+use Rattle.strengths.specs.Strength.{frame, strengthAt, written}
+use Rattle.strengths.specs.Kinds.{isKind}
+use Rattle.strengths.specs.ByKind.{strengthBy}
+use Rattle.strengths.specs.Calls.{lengthChecks, blockChecks, deriveChecks, answerOf, oneFlag, untrueKind, untrueFlags, DeriveOutcome, KindOutcome, FlagsOutcome, PlainOutcome}
 use Rattle.strengths.specs.declared.kinds.MbKind.{MbKind}
-use Rattle.strengths.specs.declared.kinds.MbKind.the-variants.{Intra, Skip, InterUniform, Inter}
 use Rattle.edges.specs.declared.Size.{Size}
 use Rattle.strengths.specs.declared.kinds.Flagged.{Flagged}
 use Rattle.strengths.specs.declared.kinds.Plain.{Plain}
 use Rattle.strengths.specs.declared.kinds.Request.{Request}
-use Rattle.strengths.proofs.InterAgrees.{inter-is, intra-is}
 use Rattle.strengths.proofs.ByKind.{kind-is}
-use Rattle.strengths.proofs.GridsFit.{GridsFit, grids-fit}
-use Rattle.laws.proofs.Bools.{or-false}
+use Rattle.strengths.proofs.GridsFit.{grids-fit, Ready, ready}
 
 module _ (size : Size) (x y : ℕ) (g : Grids) (n : ℕ) where
   -- ---- what is known once checks 1 to 11 have passed
-  pub grids-fit-all : refusal (deriveChecks size x y g n) ≡ 0 → GridsFit size x y g n
-  grids-fit-all e = grids-fit size x y g n (refusal-left (lengthChecks size x y g n) (blockChecks size x y g) tt e)
+  pub passed-ready : refusal (deriveChecks size x y g n) ≡ 0 → Ready size x y g n
+  passed-ready e = ready size x y g n (grids-fit size x y g n (refusal-left (lengthChecks size x y g n) (blockChecks size x y g) tt e))
 
   pub agrees : refusal (deriveChecks size x y g n) ≡ 0 → disagree (g .inter) (size .w) x y ≡ false
   agrees e =
@@ -60,17 +57,17 @@ module _ (size : Size) (x y : ℕ) (t8 : Bool) (g : Grids) (untrue : Bool) (s : 
 
   -- done by a kind that is true
   pub done : (kind : MbKind) (s′ : List ℕ) → refusal (deriveChecks size x y g (length s)) ≡ 0 → untrue ≡ false → isKind g (size .w) x y kind ≡ true
-      → s′ ≡ written (y * size .w + x) (strengthBy kind g (size .w) t8 x y) s → DeriveOutcome size x y t8 g untrue s 0 s′
+      → s′ ≡ written (y * size .w + x) (strengthBy kind frame g (size .w) t8 x y) s → DeriveOutcome size x y t8 g untrue s 0 s′
   done kind s′ e u k w = record {
     says = sym (answer-cut size x y g (length s) untrue ∙ (λ i. cond (eqb (e i) 0) (cond (u i) 12 0) (e i)));
-    leaves = w ∙ (λ i. written (y * size .w + x) (λ (b : ℕ). kind-is g (size .w) x y (agrees size x y g (length s) e) kind k t8 b i) s);
+    leaves = w ∙ (λ i. written (y * size .w + x) (λ (b : ℕ). kind-is g (size .w) x y (agrees size x y g (length s) e) kind k frame (oneFlag t8) b i) s);
   }
 
   -- two outcomes that the promise allows are equal
   pub unique : (n m : ℕ) (s₁ s₂ : List ℕ) → DeriveOutcome size x y t8 g untrue s n s₁ → DeriveOutcome size x y t8 g untrue s m s₂ → (n ≡ m) × (s₁ ≡ s₂)
   unique n m s₁ s₂ a b =
       let e = a .says ∙ sym (b .says) in
-      (e, a .leaves ∙ ap (λ (k : ℕ). cond (eqb k 0) (written (y * size .w + x) (strengthAt g (size .w) t8 x y) s) s) e ∙ sym (b .leaves))
+      (e, a .leaves ∙ ap (λ (k : ℕ). cond (eqb k 0) (written (y * size .w + x) (strengthAt frame g (size .w) (oneFlag t8) x y) s) s) e ∙ sym (b .leaves))
 
 -- ---- what is known of a macroblock changes nothing: a call with a kind or flags that is done leaves what
 -- the flagless call leaves, which is done too
@@ -88,7 +85,7 @@ module _ (size : Size) (x y : ℕ) (t8 : Bool) (g : Grids) (untrue : Bool) (s : 
   pub as-flagless : (n : ℕ) (s₁ s₂ : List ℕ) → DeriveOutcome size x y t8 g untrue s 0 s₁ → DeriveOutcome size x y t8 g false s n s₂ → (n ≡ 0) × (s₂ ≡ s₁)
   as-flagless n s₁ s₂ a b =
       let e : n ≡ 0 = b .says ∙ answer-cut size x y g (length s) false ∙ ap (λ (r : ℕ). cond (eqb r 0) 0 r) (passed-all (sym (a .says))) in
-      (e, b .leaves ∙ ap (λ (k : ℕ). cond (eqb k 0) (written (y * size .w + x) (strengthAt g (size .w) t8 x y) s) s) e ∙ sym (a .leaves))
+      (e, b .leaves ∙ ap (λ (k : ℕ). cond (eqb k 0) (written (y * size .w + x) (strengthAt frame g (size .w) (oneFlag t8) x y) s) s) e ∙ sym (a .leaves))
 
 -- the kind call's is the flagless one without 8x8
 pub kind-as-flagless : (size : Size) (r : Request) (g : Grids) (s s₁ s₂ : List ℕ) (n : ℕ)
@@ -98,20 +95,3 @@ kind-as-flagless size r g s s₁ s₂ n = as-flagless size (r .x) (r .y) false g
 pub flags-as-flagless : (size : Size) (r : Flagged) (g : Grids) (s s₁ s₂ : List ℕ) (n : ℕ)
     → FlagsOutcome size r g s 0 s₁ → PlainOutcome size (record { x = r .x; y = r .y; t8 = r .t8 }) g s n s₂ → (n ≡ 0) × (s₂ ≡ s₁)
 flags-as-flagless size r g s s₁ s₂ n = as-flagless size (r .x) (r .y) (r .t8) g (untrueFlags (size .w) r g) s n s₁ s₂
-
--- ---- flags that are true amount to a true kind
-flag-true : (b t : Bool) → b ≡ true → (b && not t) ≡ false → t ≡ true
-flag-true b t e f = not-false t (sym (ap (λ (c : Bool). c && not t) e) ∙ f)
-
-module _ (g : Grids) (w x y : ℕ) (agree : disagree (g .inter) w x y ≡ false) where
-  pub flags-kind : (a u : Bool) → ((a && not (flat g w x y)) || (u && not (uniform g w x y))) ≡ false → isKind g w x y (kindOf (firstInter (g .inter) w x y) a u) ≡ true
-  flags-kind a u e = go (firstInter (g .inter) w x y) refl a u refl refl
-    where
-      o : ((a && not (flat g w x y)) ≡ false) × ((u && not (uniform g w x y)) ≡ false)
-      o = or-false (a && not (flat g w x y)) (u && not (uniform g w x y)) e
-
-      go : (f : Bool) → firstInter (g .inter) w x y ≡ f → (b v : Bool) → a ≡ b → u ≡ v → isKind g w x y (kindOf f b v) ≡ true
-      go false e b v p q = intra-is g w x y agree ∙ ap not e
-      go true e true v p q = flag-true a (flat g w x y) p (o .0)
-      go true e false true p q = flag-true u (uniform g w x y) q (o .1)
-      go true e false false p q = inter-is g w x y agree ∙ e

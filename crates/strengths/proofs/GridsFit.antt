@@ -10,7 +10,7 @@ use lib.Dec.{eqb, leb}
 use lib.ListN.{length}
 use Rattle.laws.proofs.Bools.{and-true, or-false, or-true, equal}
 use Rattle.laws.specs.Refusal.{refusal}
-use Rattle.laws.proofs.Grid.{row-fits}
+use Rattle.laws.proofs.Grid.{row-fits, index-lt}
 use Rattle.laws.proofs.Refusal.{passes}
 use Rattle.motion.specs.Grids.{Grids}
 use Rattle.motion.specs.Inner.{Optional, Hold}
@@ -65,17 +65,16 @@ module _ (size : Size) (x y : ℕ) (g : Grids) (n : ℕ) (h : GridsFit size x y 
   pub inside-of : (k : ℕ) → 16 * (size .w * size .h) ≤ k → InGrids (size .w) x y k
   inside-of k l = record { column = h .column; last = omega (arith, last) }
 
-  pub small : InGrids (size .w) x y 589824
+  small : InGrids (size .w) x y 589824
   small = inside-of 589824 (omega (arith, h .sides .most))
 
-  pub holds : Hold g (ownBlock (size .w) x y 3 3 + 1)
+  holds : Hold (g .inter) (g .ref0) (g .mv0) (g .ref1) (g .mv1) (ownBlock (size .w) x y 3 3 + 1)
   holds =
       let a = h .inters in
-      let b = h .counts in
       let c = h .refs in
       let d = h .vectors in
       let l = last in
-      record { inters = omega arith; counts = omega arith; refs = omega arith; vectors = omega arith; list1 = ⊎-elim none full (h .list1) }
+      record { inters = omega arith; refs = omega arith; vectors = omega arith; list1 = ⊎-elim none full (h .list1) }
     where
       none : (length (g .ref1) ≡ 0) × (length (g .mv1) ≡ 0) → Optional (g .ref1) (g .mv1) (ownBlock (size .w) x y 3 3 + 1)
       none e = record { empty = λ k. e .1; full = λ k. absurd (no (e .0) k) }
@@ -95,3 +94,21 @@ module _ (size : Size) (x y : ℕ) (g : Grids) (n : ℕ) (h : GridsFit size x y 
     where
       no : length (g .ref1) ≡ 0 → 0 < length (g .ref1) → ⊥
       no p q = omega arith
+
+-- ---- what the walks and the derivation ask
+pub record Ready (size : Size) (x y : ℕ) (g : Grids) (n : ℕ) : Type 0 where
+  pub grids : Hold (g .inter) (g .ref0) (g .mv0) (g .ref1) (g .mv1) (ownBlock (size .w) x y 3 3 + 1)
+  pub inter : InGrids (size .w) x y (length (g .inter))
+  pub nnz : InGrids (size .w) x y (length (g .nnz))
+  pub place : InGrids (size .w) x y 589824
+  pub room : 32 * (y * size .w + x) + 32 ≤ n
+
+pub ready : (size : Size) (x y : ℕ) (g : Grids) (n : ℕ) → GridsFit size x y g n → Ready size x y g n
+ready size x y g n h =
+    record {
+      grids = holds size x y g n h;
+      inter = inside-of size x y g n h _ (omega (arith, h .inters));
+      nnz = inside-of size x y g n h _ (omega (arith, h .counts));
+      place = small size x y g n h;
+      room = omega (arith, index-lt (size .w) (size .h) x y (h .column) (h .line), h .strengths);
+    }

@@ -1,6 +1,7 @@
--- Where check 11 does not apply, the first of the own blocks speaks for all 16 on inter. Assumes nothing.
+-- Where check 11 does not apply, the first of the own blocks speaks for all 16 on inter: so what a caller says
+-- of them is judged by it, and the kind to go by is true. Assumes nothing.
 use mathlib.Core.Path.{_≡_, refl, sym, ap, _∙_}
-use mathlib.Core.Bool.{Bool, true, false, not, _&&_, _||_}
+use mathlib.Core.Bool.{Bool, true, false, not, _&&_, _||_, true≢false}
 use mathlib.Core.List.{List}
 use Prim.Native.Nat.{ℕ, zero, suc, _+_, _-_, _*_, _<_}
 use native.Mathlib.Omega.{arith}
@@ -9,31 +10,28 @@ use lib.Dec.{eqb, ltb}
 use lib.ListN.{getD}
 use Rattle.laws.specs.Some.{some, every}
 use Rattle.laws.proofs.Some.{some-not, every-same, every-and, every-not}
-use Rattle.motion.specs.Grids.{Grids, blkAt}
+use Rattle.motion.specs.Grids.{Grids, coded, blockRead, blkAt}
 use Rattle.motion.specs.Motion.{sameMotion}
-use Rattle.motion.specs.declared.blocks.Blk.{Blk}
 use Rattle.strengths.specs.Blocks.{origin, ownBlock, leftBlock, aboveBlock}
 use Rattle.strengths.specs.Checks.{differs, disagree}
 use Rattle.strengths.specs.Kinds.{everyOwn, uniform, flat, isKind}
-use Rattle.strengths.specs.ByKind.{firstInter, kindBy}
+use Rattle.strengths.specs.ByKind.{firstInter, kindBy, kindOf, saysAny, untrueBy, untrueKnown, kindKnown}
+use Rattle.strengths.specs.declared.kinds.Known.{Known}
+use Rattle.strengths.specs.declared.kinds.Known.the-variants.{Stated, Flags}
 use Rattle.strengths.specs.declared.kinds.MbKind.{MbKind}
 use Rattle.strengths.specs.declared.kinds.MbKind.the-variants.{Intra, Skip, InterUniform, Inter}
 use Rattle.laws.proofs.Bools.{or-false}
 
 -- ---- what the code looks at
 abbrev pub oneMotion : Grids → ℕ → ℕ → ℕ → Bool
-oneMotion g w x y = everyOwn g w x y (λ b. sameMotion b (blkAt g (origin w x y)))
+oneMotion g w x y = everyOwn w x y (λ i. sameMotion (blkAt g i) (blkAt g (origin w x y)))
 
 abbrev pub someCoded : Grids → ℕ → ℕ → ℕ → Bool
 someCoded g w x y = some 4 (λ r. some 4 (λ c. ltb 0 (getD (g .nnz) (ownBlock w x y r c) 0)))
 
 -- ---- a test over the 4 by 4
-own-same : (g : Grids) (w x y : ℕ) (f h : Blk → Bool) → ((r c : ℕ) → r < 4 → c < 4 → f (blkAt g (ownBlock w x y r c)) ≡ h (blkAt g (ownBlock w x y r c)))
-    → everyOwn g w x y f ≡ everyOwn g w x y h
-own-same g w x y f h e = every-same 4 _ _ (λ r l. every-same 4 _ _ (λ c m. e r c l m))
-
-own-and : (g : Grids) (w x y : ℕ) (f h : Blk → Bool) → everyOwn g w x y (λ b. f b && h b) ≡ (everyOwn g w x y f && everyOwn g w x y h)
-own-and g w x y f h = every-same 4 _ _ (λ r l. every-and 4 _ _) ∙ every-and 4 _ _
+own-and : (w x y : ℕ) (f h : ℕ → Bool) → everyOwn w x y (λ i. f i && h i) ≡ (everyOwn w x y f && everyOwn w x y h)
+own-and w x y f h = every-same 4 _ _ (λ r l. every-and 4 _ _) ∙ every-and 4 _ _
 
 all : (b : Bool) → every 4 (λ r. every 4 (λ c. b)) ≡ b
 unfolding every
@@ -44,8 +42,7 @@ ltb-not : (n : ℕ) → not (eqb n 0) ≡ ltb 0 n
 ltb-not zero = refl
 ltb-not (suc n) = rw (ne-eqb (suc n) 0 (λ e. omega arith), lt-ltb 0 (suc n) (omega arith))
 
-pub bare-is : (g : Grids) (w x y : ℕ) → everyOwn g w x y (λ b. not (b .nz)) ≡ not (someCoded g w x y)
-unfolding blkAt
+bare-is : (g : Grids) (w x y : ℕ) → everyOwn w x y (λ i. not (coded g i)) ≡ not (someCoded g w x y)
 bare-is g w x y =
     every-same 4 _ _ (λ r l. every-same 4 _ _ (λ c m. ap not (ltb-not (getD (g .nnz) (ownBlock w x y r c) 0))) ∙ every-not 4 _)
     ∙ every-not 4 _
@@ -59,7 +56,7 @@ module _ (g : Grids) (w x y : ℕ) (agree : disagree (g .inter) w x y ≡ false)
       eqb-true _ _ (not-false _ (some-not 4 c _ (some-not 4 r _ (b .0) l) m))
 
   pub own-inter : (r c : ℕ) → r < 4 → c < 4 → blkAt g (ownBlock w x y r c) .inter ≡ firstInter (g .inter) w x y
-  unfolding blkAt
+  unfolding blockRead
   own-inter r c l m = ap (λ (n : ℕ). eqb n 1) (own-agrees r c l m)
 
   pub inter-is : isKind g w x y Inter ≡ firstInter (g .inter) w x y
@@ -70,7 +67,7 @@ module _ (g : Grids) (w x y : ℕ) (agree : disagree (g .inter) w x y ≡ false)
 
   pub uniform-is : uniform g w x y ≡ (firstInter (g .inter) w x y && oneMotion g w x y)
   unfolding uniform
-  uniform-is = own-and g w x y (λ b. b .inter) (λ b. sameMotion b (blkAt g (origin w x y))) ∙ ap (λ (b : Bool). b && oneMotion g w x y) inter-is
+  uniform-is = own-and w x y (λ i. blkAt g i .inter) (λ i. sameMotion (blkAt g i) (blkAt g (origin w x y))) ∙ ap (λ (b : Bool). b && oneMotion g w x y) inter-is
 
   pub flat-is : flat g w x y ≡ (firstInter (g .inter) w x y && oneMotion g w x y && not (someCoded g w x y))
   unfolding flat
@@ -82,3 +79,36 @@ module _ (g : Grids) (w x y : ℕ) (agree : disagree (g .inter) w x y ≡ false)
   kind-by Skip = sym flat-is
   kind-by InterUniform = sym uniform-is
   kind-by Inter = sym inter-is
+
+  -- ---- what a caller says: by what the code looks at, and where it says nothing
+  pub known-by : (known : Known) → untrueBy known (firstInter (g .inter) w x y) (oneMotion g w x y) (someCoded g w x y) ≡ untrueKnown known g w x y
+  known-by (Stated kind) = ap not (kind-by kind)
+  known-by (Flags a u) = sym (λ i. (a && not (flat-is i)) || (u && not (uniform-is i)))
+
+pub unsaid : (known : Known) (g : Grids) (w x y : ℕ) → saysAny known ≡ false → untrueKnown known g w x y ≡ false
+unsaid (Stated kind) g w x y e = absurd (true≢false e)
+unsaid (Flags a u) g w x y e =
+    let o = or-false a u e in
+    λ i. (o .0 i && not (flat g w x y)) || (o .1 i && not (uniform g w x y))
+
+-- ---- flags that are true amount to a true kind
+flag-true : (b t : Bool) → b ≡ true → (b && not t) ≡ false → t ≡ true
+flag-true b t e f = not-false t (sym (ap (λ (c : Bool). c && not t) e) ∙ f)
+
+module _ (g : Grids) (w x y : ℕ) (agree : disagree (g .inter) w x y ≡ false) where
+  pub flags-kind : (a u : Bool) → ((a && not (flat g w x y)) || (u && not (uniform g w x y))) ≡ false → isKind g w x y (kindOf (firstInter (g .inter) w x y) a u) ≡ true
+  flags-kind a u e = go (firstInter (g .inter) w x y) refl a u refl refl
+    where
+      o : ((a && not (flat g w x y)) ≡ false) × ((u && not (uniform g w x y)) ≡ false)
+      o = or-false (a && not (flat g w x y)) (u && not (uniform g w x y)) e
+
+      go : (f : Bool) → firstInter (g .inter) w x y ≡ f → (b v : Bool) → a ≡ b → u ≡ v → isKind g w x y (kindOf f b v) ≡ true
+      go false e b v p q = intra-is g w x y agree ∙ ap not e
+      go true e true v p q = flag-true a (flat g w x y) p (o .0)
+      go true e false true p q = flag-true u (uniform g w x y) q (o .1)
+      go true e false false p q = inter-is g w x y agree ∙ e
+
+  -- so the kind to go by is true where what is said is
+  pub known-kind : (known : Known) → untrueKnown known g w x y ≡ false → isKind g w x y (kindKnown known (firstInter (g .inter) w x y)) ≡ true
+  known-kind (Stated kind) e = not-false _ e
+  known-kind (Flags a u) e = flags-kind a u e

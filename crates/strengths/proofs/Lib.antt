@@ -1,4 +1,5 @@
 pub mod InterAgrees
+pub mod Before
 pub mod Beside
 pub mod ByKind
 pub mod Examples

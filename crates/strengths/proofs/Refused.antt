@@ -11,12 +11,17 @@ use lib.IntN.{ℤ, pos, negsuc}
 use lib.ListN.{length, getD}
 use Rattle.laws.specs.Refusal.{refusal}
 use Rattle.laws.specs.Some.{some}
-use Rattle.motion.specs.Grids.{Grids, grids}
+use Rattle.motion.specs.Far.{outside}
+use Rattle.motion.specs.Grids.{Grids, grids, coded, blockRead, blkAt}
+use Rattle.motion.specs.Motion.{used, mismatched, differ, interStrength}
 use Rattle.strengths.specs.Blocks.{someRead}
 use Rattle.strengths.specs.Checks.{badInter, badRefs, disagree}
-use Rattle.strengths.specs.Calls.{lengthChecks, answerOf, DeriveOutcome}
-use Rattle.strengths.specs.Strength.{edge, vertical, skipped, strengthAt}
-use Rattle.strengths.proofs.Examples.{oneMb, intra, answered, border-zero, inside-three}
+use Rattle.strengths.specs.Calls.{lengthChecks, answerOf, oneFlag, DeriveOutcome, KindOutcome}
+use Rattle.strengths.specs.Strength.{vertical, edge, qBlock, pBlock, frame, skipped, between, strengthAt, written}
+use Rattle.strengths.specs.ByKind.{strengthBy}
+use Rattle.strengths.specs.declared.kinds.MbKind.the-variants.{Intra, InterUniform}
+use Rattle.strengths.specs.declared.kinds.Request.{Request}
+use Rattle.strengths.proofs.Examples.{oneMb, intra, answered, border-zero, inside-three, besideMoved}
 use Rattle.strengths.proofs.Written.{written-at}
 
 -- a strengths grid of one macroblock, nothing written
@@ -31,7 +36,7 @@ always-refuses n s h r = h (r .says ∙ answered)
 -- on its inner edges
 pub constant : (c : ℕ) (s : List ℕ) → ((k : ℕ) → k < 32 → getD s k 0 ≡ c) → DeriveOutcome oneMb 0 0 false intra false unwritten 0 s → ⊥
 constant c s h r =
-    let f = strengthAt intra 1 false 0 0 in
+    let f = strengthAt frame intra 1 (oneFlag false) 0 0 in
     let p : c ≡ 0 = sym (h 0 (ltb-true 0 32 refl)) ∙ ap (λ (t : List ℕ). getD t 0 0) (r .leaves) ∙ written-at 0 f unwritten 0 (ltb-true 0 32 refl) (omega arith) ∙ border-zero in
     let q : c ≡ 3 = sym (h 4 (ltb-true 4 32 refl)) ∙ ap (λ (t : List ℕ). getD t 4 0) (r .leaves) ∙ written-at 0 f unwritten 4 (ltb-true 4 32 refl) (omega arith) ∙ inside-three in
     omega arith
@@ -42,6 +47,35 @@ upright t8 k = t8 && vertical k && eqb (edge k % 2) 1
 
 pub not-upright : ((k : ℕ) → upright true k ≡ skipped true k) → ⊥
 not-upright h = false≢true (h 20)
+
+-- ---- the kind call honours an 8x8 transform: byte 4, the first of vertical edge 1, has 3 and not 0
+abbrev asIntra : Request
+asIntra = record { x = 0; y = 0; kind = Intra }
+
+pub kind-not-8x8 : (s : List ℕ) → s ≡ written 0 (strengthAt frame intra 1 (oneFlag true) 0 0) unwritten → KindOutcome oneMb asIntra intra unwritten 0 s → ⊥
+unfolding strengthAt
+kind-not-8x8 s e r =
+    let p = written-at 0 (strengthAt frame intra 1 (oneFlag true) 0 0) unwritten 4 (ltb-true 4 32 refl) (omega arith) in
+    let q = written-at 0 (strengthAt frame intra 1 (oneFlag false) 0 0) unwritten 4 (ltb-true 4 32 refl) (omega arith) in
+    let z : _≡_ {A = ℕ} 0 3 = sym p ∙ ap (λ (t : List ℕ). getD t 4 0) (sym e ∙ r .leaves) ∙ q ∙ inside-three in
+    omega arith
+
+-- ---- motion inside a macroblock not compared, as if it were uniform: the first block moves, and byte 4,
+-- between it and the next, has 1
+abbrev moved : Grids
+moved = grids (replicate 16 1) (replicate 16 0) (replicate 16 (pos 0)) (pos 4 ∷ replicate 31 (pos 0)) [] []
+
+pub not-as-uniform : strengthBy InterUniform frame moved 1 false 0 0 4 ≡ strengthAt frame moved 1 (oneFlag false) 0 0 4 → ⊥
+unfolding strengthBy strengthAt between blockRead interStrength differ mismatched used outside
+not-as-uniform e = let k : _≡_ {A = ℕ} 0 1 = e in omega arith
+
+-- ---- one block's coefficients ignored: only the block to the left has any, and byte 0 has 2
+abbrev qCount : Grids → ℕ → ℕ → ℕ → ℕ → ℕ
+qCount g w x y k = between 3 3 (coded g (qBlock w x y k)) (blkAt g (pBlock w x y k)) (blkAt g (qBlock w x y k))
+
+pub not-own-count : qCount besideMoved 2 1 0 0 ≡ strengthAt frame besideMoved 2 (oneFlag false) 1 0 0 → ⊥
+unfolding strengthAt between blockRead interStrength differ mismatched used outside
+not-own-count e = let k : _≡_ {A = ℕ} 1 2 = e in omega arith
 
 -- ---- 11 before 10: block 5 alone is inter, and its reference is -2. The answer is 10
 abbrev mixedInter : Grids

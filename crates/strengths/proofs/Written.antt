@@ -12,10 +12,11 @@ use lib.Seq.{getD-set-same, getD-set-other}
 use Rattle.laws.specs.Loop.{upTo}
 use Rattle.laws.proofs.Cond.{cond-both}
 use Rattle.laws.proofs.Loop.{upTo-keeps}
-use Rattle.motion.specs.Grids.{Grids, blkAt}
+use Rattle.motion.specs.Grids.{Grids, coded, blkAt}
 use Rattle.motion.specs.declared.blocks.Blk.{Blk}
 use Rattle.motion.proofs.Laws.{strength-le}
-use Rattle.strengths.specs.Strength.{edge, qBlock, pBlock, border, skipped, between, strengthAt, written}
+use Rattle.strengths.specs.Strength.{vertical, edge, qBlock, pBlock, border, skipped, intraStrength, between, strengthAt, written}
+use Rattle.strengths.specs.declared.kinds.Mode.{Mode}
 
 -- ---- n values from `first` on
 abbrev filled : ℕ → ℕ → (ℕ → ℕ) → List ℕ → List ℕ
@@ -60,13 +61,15 @@ module _ (i : ℕ) (f : ℕ → ℕ) (s : List ℕ) where
   written-beside j h = filled-beside 32 (32 * i) f s j (λ k l e. ⊎-elim (λ p. omega arith) (λ p. omega arith) h)
 
 -- ---- at most 4
-between-most : (outer : Bool) (p q : Blk) → between outer p q ≤ 4
+between-most : (v n : ℕ) (c : Bool) (p q : Blk) → n ≤ 4 → between v n c p q ≤ 4
 unfolding between
-between-most outer p q =
-    cond-both (λ (n : ℕ). n ≤ 4) (p .inter && q .inter) (le-trans (strength-le 3 p q) (lit≤ tt)) (cond-both (λ (n : ℕ). n ≤ 4) outer (lit≤ tt) (lit≤ tt))
+between-most v n c p q h = cond-both (λ (m : ℕ). m ≤ 4) (p .inter && q .inter) (le-trans (strength-le v c p q) (lit≤ tt)) h
 
-pub strength-most : (g : Grids) (w : ℕ) (t8 : Bool) (x y k : ℕ) → strengthAt g w t8 x y k ≤ 4
+intra-most : (mode : Mode) (k : ℕ) → mode .upper ≤ 4 → intraStrength mode k ≤ 4
+intra-most mode k h = cond-both (λ (n : ℕ). n ≤ 4) (eqb (edge k) 0) (cond-both (λ (n : ℕ). n ≤ 4) (vertical k) (lit≤ tt) h) (lit≤ tt)
+
+pub strength-most : (mode : Mode) (g : Grids) (w : ℕ) (t8s : ℕ → Bool) (x y k : ℕ) → mode .upper ≤ 4 → strengthAt mode g w t8s x y k ≤ 4
 unfolding strengthAt
-strength-most g w t8 x y k =
-    cond-both (λ (n : ℕ). n ≤ 4) (border x y k || skipped t8 k) {x = 0} (lit≤ tt)
-    (between-most (eqb (edge k) 0) (blkAt g (pBlock w x y k)) (blkAt g (qBlock w x y k)))
+strength-most mode g w t8s x y k h =
+    cond-both (λ (n : ℕ). n ≤ 4) (border x y k || skipped (t8s (y * w + x)) k) {x = 0} (lit≤ tt)
+    (between-most (mode .limit) (intraStrength mode k) (coded g (pBlock w x y k) || coded g (qBlock w x y k)) (blkAt g (pBlock w x y k)) (blkAt g (qBlock w x y k)) (intra-most mode k h))

@@ -6,11 +6,15 @@ use mathlib.Core.Bool.{Bool, true, cond, not, _&&_, _||_}
 use mathlib.Core.List.{List}
 use lib.Dec.{eqb}
 use lib.ListN.{getD}
-use Rattle.motion.specs.Grids.{Grids, blkAt}
+use Rattle.motion.specs.Grids.{Grids, coded, blkAt}
 use Rattle.motion.specs.Motion.{interStrength}
 use Rattle.motion.specs.declared.blocks.Blk.{Blk}
 use Rattle.strengths.specs.Blocks.{origin}
-use Rattle.strengths.specs.Strength.{edge, qBlock, pBlock, border, skipped, between}
+use Rattle.strengths.specs.Kinds.{uniform, flat, isKind}
+use Rattle.strengths.specs.Strength.{vertical, edge, qBlock, pBlock, border, skipped, outerIntra, between}
+use Rattle.strengths.specs.declared.kinds.Known.{Known}
+use Rattle.strengths.specs.declared.kinds.Known.the-variants.{Stated, Flags}
+use Rattle.strengths.specs.declared.kinds.Mode.{Mode}
 use Rattle.strengths.specs.declared.kinds.MbKind.{MbKind}
 use Rattle.strengths.specs.declared.kinds.MbKind.the-variants.{Intra, Skip, InterUniform, Inter}
 
@@ -30,17 +34,41 @@ kindBy Inter first same coded = first
 abbrev pub kindOf : Bool → Bool → Bool → MbKind
 kindOf first flat uniform = cond (not first) Intra (cond flat Skip (cond uniform InterUniform Inter))
 
+-- ---- what a caller says: whether it says anything, whether it is untrue by what the own blocks show or of
+-- the grids, and the kind to go by
+abbrev pub saysAny : Known → Bool
+saysAny (Stated kind) = true
+saysAny (Flags flat uniform) = flat || uniform
+
+abbrev pub untrueBy : Known → Bool → Bool → Bool → Bool
+untrueBy (Stated kind) first same coded = not (kindBy kind first same coded)
+untrueBy (Flags flat uniform) first same coded = (flat && not (first && same && not coded)) || (uniform && not (first && same))
+
+abbrev pub untrueKnown : Known → Grids → ℕ → ℕ → ℕ → Bool
+untrueKnown (Stated kind) g w x y = not (isKind g w x y kind)
+untrueKnown (Flags a u) g w x y = (a && not (flat g w x y)) || (u && not (uniform g w x y))
+
+abbrev pub kindKnown : Known → Bool → MbKind
+kindKnown (Stated kind) first = kind
+kindKnown (Flags flat uniform) first = kindOf first flat uniform
+
 -- ---- an inner edge by kind
-abbrev pub inside : MbKind → Blk → Blk → ℕ
-inside Intra p q = 3
-inside Skip p q = 0
-inside InterUniform p q = cond (p .nz || q .nz) 2 0
-inside Inter p q = interStrength 3 p q
+abbrev pub inside : MbKind → ℕ → Bool → Blk → Blk → ℕ
+inside Intra limit coded p q = 3
+inside Skip limit coded p q = 0
+inside InterUniform limit coded p q = cond coded 2 0
+inside Inter limit coded p q = interStrength limit coded p q
 
--- an edge of which `first` says whether it is the outer one
-abbrev pub acrossBy : MbKind → Bool → Blk → Blk → ℕ
-acrossBy kind first p q = cond first (between true p q) (inside kind p q)
+-- an edge of which `outer` says whether it is an outer one, and `left` whether it is vertical
+abbrev pub acrossBy : MbKind → Mode → Bool → Bool → Bool → Blk → Blk → ℕ
+acrossBy kind mode outer left coded p q =
+    cond outer (between (mode .limit) (outerIntra mode left) coded p q) (inside kind (mode .limit) coded p q)
 
-unfoldable pub strengthBy : MbKind → Grids → ℕ → Bool → ℕ → ℕ → ℕ → ℕ
-strengthBy kind g w t8 x y k =
-    cond (border x y k || skipped t8 k) 0 (acrossBy kind (eqb (edge k) 0) (blkAt g (pBlock w x y k)) (blkAt g (qBlock w x y k)))
+-- t8 is the macroblock's own flag
+unfoldable pub strengthBy : MbKind → Mode → Grids → ℕ → Bool → ℕ → ℕ → ℕ → ℕ
+strengthBy kind mode g w t8 x y k =
+    cond
+    (border x y k || skipped t8 k)
+    0
+    (acrossBy kind mode (eqb (edge k) 0) (vertical k)
+    (coded g (pBlock w x y k) || coded g (qBlock w x y k)) (blkAt g (pBlock w x y k)) (blkAt g (qBlock w x y k)))

@@ -11,7 +11,7 @@ use Rattle.laws.specs.Refusal.{refusal}
 use Rattle.motion.specs.Grids.{Grids}
 use Rattle.strengths.specs.Checks.{badSize, outsideOf, badStrengths, badBlocks, badInter, badRefs, disagree}
 use Rattle.strengths.specs.Kinds.{isKind, flat, uniform}
-use Rattle.strengths.specs.Strength.{strengthAt, written}
+use Rattle.strengths.specs.Strength.{frame, strengthAt, written}
 use Rattle.strengths.specs.declared.kinds.MbKind.{MbKind}
 use Rattle.edges.specs.declared.Size.{Size}
 use Rattle.strengths.specs.declared.kinds.Request.{Request}
@@ -40,11 +40,15 @@ untrueKind size r g = not (isKind g (size .w) (r .x) (r .y) (r .kind))
 abbrev pub untrueFlags : ℕ → Flagged → Grids → Bool
 untrueFlags w r g = (r .flat && not (flat g w (r .x) (r .y))) || (r .uniform && not (uniform g w (r .x) (r .y)))
 
+-- a call is told its own macroblock's flag: it stands for all
+abbrev pub oneFlag : Bool → ℕ → Bool
+oneFlag t8 i = t8
+
 -- ---- an outcome: the answer n, and the grid before and after. A refusal leaves it as it was; else the 32
 -- bytes of the macroblock are written and no other
 pub record DeriveOutcome (size : Size) (x y : ℕ) (t8 : Bool) (g : Grids) (untrue : Bool) (s : List ℕ) (n : ℕ) (s′ : List ℕ) : Type 0 where
   pub says : n ≡ answerOf size x y g untrue (length s)
-  pub leaves : s′ ≡ cond (eqb n 0) (written (y * size .w + x) (strengthAt g (size .w) t8 x y) s) s
+  pub leaves : s′ ≡ cond (eqb n 0) (written (y * size .w + x) (strengthAt frame g (size .w) (oneFlag t8) x y) s) s
 
 abbrev pub KindOutcome : Size → Request → Grids → List ℕ → ℕ → List ℕ → Type 0
 KindOutcome size r g = DeriveOutcome size (r .x) (r .y) false g (untrueKind size r g)

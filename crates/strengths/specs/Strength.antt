@@ -1,5 +1,5 @@
 -- The 32 strengths of a macroblock, straight from the grids: ITU-T H.264, clause 8.7.2.1, for progressive
--- frames. Byte k is segment k % 4 of edge k / 4 % 4, vertical edges first. Between blocks p and q an edge
+-- frames (the mode `frame`). Byte k is segment k % 4 of edge k / 4 % 4, vertical edges first. Between blocks p and q an edge
 -- lies to the left of q or above it. A lone intra macroblock has 0 on edges 0 and 3 on the others; beside an
 -- intra one a macroblock has 4 on its left edge (proofs/Examples).
 use Prim.Native.Nat.{ℕ, _+_, _-_, _*_, _/_, _%_}
@@ -8,10 +8,11 @@ use mathlib.Core.List.{List}
 use lib.Dec.{eqb, ltb}
 use lib.ListN.{set}
 use Rattle.laws.specs.Loop.{upTo}
-use Rattle.motion.specs.Grids.{Grids, blkAt}
+use Rattle.motion.specs.Grids.{Grids, coded, blkAt}
 use Rattle.motion.specs.Motion.{interStrength}
 use Rattle.motion.specs.declared.blocks.Blk.{Blk}
 use Rattle.strengths.specs.Blocks.{ownBlock}
+use Rattle.strengths.specs.declared.kinds.Mode.{Mode}
 
 -- ---- byte k: its edge, the blocks beside it, and whether there is a neighbour across an outer edge
 abbrev pub vertical : ℕ → Bool
@@ -40,18 +41,33 @@ pBlock w x y k = qBlock w x y k - cond (vertical k) 1 (4 * w)
 abbrev pub border : ℕ → ℕ → ℕ → Bool
 border x y k = eqb (edge k) 0 && eqb (cond (vertical k) x y) 0
 
--- ---- 4 on an outer and 3 on an inner edge beside an intra block; else by coefficients and motion, where 3
--- is the most by which near vectors differ
-unfoldable pub between : Bool → Blk → Blk → ℕ
-between outer p q = cond (p .inter && q .inter) (interStrength 3 p q) (cond outer 4 3)
+-- ---- frames: near vectors differ vertically by 3 at most, and an intra upper edge has 4. Fields have 1 and 3
+abbrev pub frame : Mode
+frame = record { limit = 3; upper = 4 }
+
+-- beside an intra block: 3 on an inner edge, 4 on the left one, on the upper one by the mode
+abbrev pub outerIntra : Mode → Bool → ℕ
+outerIntra mode left = cond left 4 (mode .upper)
+
+abbrev pub intraStrength : Mode → ℕ → ℕ
+intraStrength mode k = cond (eqb (edge k) 0) (outerIntra mode (vertical k)) 3
+
+-- between inter blocks by coefficients and motion, else the strength `intra`
+unfoldable pub between : ℕ → ℕ → Bool → Blk → Blk → ℕ
+between limit intra coded p q = cond (p .inter && q .inter) (interStrength limit coded p q) intra
+
+-- byte k, between the blocks of indices p and q
+abbrev pub strengthBetween : Mode → Grids → ℕ → ℕ → ℕ → ℕ
+strengthBetween mode g k p q = between (mode .limit) (intraStrength mode k) (coded g p || coded g q) (blkAt g p) (blkAt g q)
 
 -- edges 1 and 3 are no transform edges of an 8x8 macroblock
 abbrev pub skipped : Bool → ℕ → Bool
 skipped t8 k = t8 && eqb (edge k % 2) 1
 
-unfoldable pub strengthAt : Grids → ℕ → Bool → ℕ → ℕ → ℕ → ℕ
-strengthAt g w t8 x y k =
-    cond (border x y k || skipped t8 k) 0 (between (eqb (edge k) 0) (blkAt g (pBlock w x y k)) (blkAt g (qBlock w x y k)))
+-- t8s tells of each macroblock, by its index, whether it is 8x8
+unfoldable pub strengthAt : Mode → Grids → ℕ → (ℕ → Bool) → ℕ → ℕ → ℕ → ℕ
+strengthAt mode g w t8s x y k =
+    cond (border x y k || skipped (t8s (y * w + x)) k) 0 (strengthBetween mode g k (pBlock w x y k) (qBlock w x y k))
 
 -- the strengths grid with the 32 bytes of macroblock i written
 unfoldable pub written : ℕ → (ℕ → ℕ) → List ℕ → List ℕ

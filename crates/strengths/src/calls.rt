@@ -8,24 +8,25 @@ ghost use Rattle.strengths.specs.Blocks.{ownBlock};
 ghost use Rattle.strengths.specs.Inner.{InGrids};
 ghost use Rattle.strengths.specs.Checks.{disagree};
 ghost use lib.ListN.{length};
-ghost use Rattle.strengths.specs.Kinds.{isKind};
-ghost use Rattle.strengths.specs.ByKind.{firstInter};
-ghost use Rattle.strengths.specs.Calls.{untrueFlags, KindOutcome, FlagsOutcome, PlainOutcome};
+ghost use Rattle.strengths.specs.ByKind.{firstInter, untrueKnown};
+ghost use Rattle.strengths.specs.Calls.{DeriveOutcome, KindOutcome, FlagsOutcome, PlainOutcome};
 use crate::checks::refuse_derive;
 use crate::derive::derive;
 use crate::derive::own_same;
 use crate::kinds::Flagged;
-use crate::kinds::MbKind;
+use crate::kinds::Known;
+use crate::kinds::Mode;
 use crate::kinds::Plain;
 use crate::kinds::Request;
-use crate::kinds::kind_holds;
-use crate::kinds::kind_of;
+use crate::kinds::kind_known;
+use crate::kinds::says_any;
+use crate::kinds::untrue_by;
 use crate::walks::own_over;
 use edges::Size;
 
-// The kind is true of the grids.
-fn is_kind<'a>(
-    kind: MbKind,
+// Check 12: what is said is not true of the grids. Where nothing is said they are not walked.
+fn untrue_known<'a>(
+    known: Known,
     w: usize,
     x: usize,
     y: usize,
@@ -36,38 +37,19 @@ fn is_kind<'a>(
     ref1: &[i8],
     mv1: &'a [i16],
 ) -> bool
-    requires { ⌜ Hold (grids (now inter) (now nnz) (now ref0) (now mv0) (now ref1) (now mv1)) (ownBlock w x y 3 3 + 1) ⌝ }
+    requires { ⌜ Hold (now inter) (now ref0) (now mv0) (now ref1) (now mv1) (ownBlock w x y 3 3 + 1) ⌝ }
+    requires { ⌜ InGrids w x y (length (now nnz)) ⌝ }
     requires { ⌜ InGrids w x y 589824 ⌝ }
     requires { ⌜ disagree (now inter) w x y ≡ false ⌝ }
-    ensures { λ r. ⌜ r ≡ isKind (grids (now (inter .entry)) (now (nnz .entry)) (now (ref0 .entry)) (now (mv0 .entry)) (now (ref1 .entry)) (now (mv1 .entry))) w x y kind ⌝ }
+    ensures { λ r. ⌜ r ≡ untrueKnown known (grids (now (inter .entry)) (now (nnz .entry)) (now (ref0 .entry)) (now (mv0 .entry)) (now (ref1 .entry)) (now (mv1 .entry))) w x y ⌝ }
 {
+    if !says_any(known) {
+        return false;
+    }
     let at = 16 * (y * w) + 4 * x;
-    let same = own_same(inter, nnz, ref0, mv0, ref1, mv1, at, 4 * w);
+    let same = own_same(inter, ref0, mv0, ref1, mv1, at, 4 * w);
     let coded = own_over(nnz, at, 4 * w, 0);
-    kind_holds(kind, inter[at] == 1, same, coded)
-}
-
-// A flag that is set is not true of the grids.
-fn untrue_flags<'a>(
-    f: Flagged,
-    w: usize,
-    inter: &[u8],
-    nnz: &[u8],
-    ref0: &[i8],
-    mv0: &'a [i16],
-    ref1: &[i8],
-    mv1: &'a [i16],
-) -> bool
-    requires { ⌜ Hold (grids (now inter) (now nnz) (now ref0) (now mv0) (now ref1) (now mv1)) (ownBlock w (f .x) (f .y) 3 3 + 1) ⌝ }
-    requires { ⌜ InGrids w (f .x) (f .y) 589824 ⌝ }
-    requires { ⌜ disagree (now inter) w (f .x) (f .y) ≡ false ⌝ }
-    ensures { λ r. ⌜ r ≡ untrueFlags w f (grids (now (inter .entry)) (now (nnz .entry)) (now (ref0 .entry)) (now (mv0 .entry)) (now (ref1 .entry)) (now (mv1 .entry))) ⌝ }
-{
-    let at = 16 * (f.y * w) + 4 * f.x;
-    let same = own_same(inter, nnz, ref0, mv0, ref1, mv1, at, 4 * w);
-    let coded = own_over(nnz, at, 4 * w, 0);
-    let first = inter[at] == 1;
-    (f.flat & !(first & same & !coded)) | (f.uniform & !(first & same))
+    untrue_by(known, inter[at] == 1, same, coded)
 }
 
 // Whether the first of the own blocks is inter.
@@ -76,6 +58,62 @@ fn first_inter(inter: &[u8], w: usize, x: usize, y: usize) -> bool
     ensures { λ r. ⌜ r ≡ firstInter (now (inter .entry)) w x y ⌝ }
 {
     inter[16 * (y * w) + 4 * x] == 1
+}
+
+// What the three have in common: checks 1 to 12, then the strengths of a frame.
+fn derive_known<'a>(
+    size: Size,
+    x: usize,
+    y: usize,
+    t8: bool,
+    known: Known,
+    inter: &[u8],
+    nnz: &[u8],
+    ref0: &[i8],
+    mv0: &'a [i16],
+    ref1: &[i8],
+    mv1: &'a [i16],
+    strengths: &mut [u8],
+) -> u32
+    ensures { λ n. ⌜ DeriveOutcome size x y t8 (grids (now (inter .entry)) (now (nnz .entry)) (now (ref0 .entry)) (now (mv0 .entry)) (now (ref1 .entry)) (now (mv1 .entry))) (untrueKnown known (grids (now (inter .entry)) (now (nnz .entry)) (now (ref0 .entry)) (now (mv0 .entry)) (now (ref1 .entry)) (now (mv1 .entry))) (size .w) x y) (now (strengths .entry)) n (now (strengths .exit)) ⌝ }
+{
+    let w = size.w;
+    let n = refuse_derive(
+        size,
+        x,
+        y,
+        strengths.len(),
+        inter,
+        nnz,
+        ref0,
+        mv0,
+        ref1,
+        mv1,
+    );
+    if n != 0 {
+        return n;
+    }
+    if untrue_known(known, w, x, y, inter, nnz, ref0, mv0, ref1, mv1) {
+        return 12;
+    }
+    let kind = kind_known(known, first_inter(inter, w, x, y));
+    let mode = Mode { limit: 3, upper: 4 };
+    derive(
+        kind,
+        mode,
+        t8,
+        w,
+        x,
+        y,
+        inter,
+        nnz,
+        ref0,
+        mv0,
+        ref1,
+        mv1,
+        strengths,
+    );
+    0
 }
 
 // Strengths of a macroblock whose kind is known; its transform counts as 4x4.
@@ -92,35 +130,14 @@ pub fn derive_mb_kind<'a>(
 ) -> u32
     ensures { λ n. ⌜ KindOutcome size r (grids (now (inter .entry)) (now (nnz .entry)) (now (ref0 .entry)) (now (mv0 .entry)) (now (ref1 .entry)) (now (mv1 .entry))) (now (strengths .entry)) n (now (strengths .exit)) ⌝ }
 {
-    let x = r.x;
-    let y = r.y;
     let kind = r.kind;
-    let w = size.w;
-    let n = refuse_derive(
+    let known = Known::Stated(kind);
+    derive_known(
         size,
-        x,
-        y,
-        strengths.len(),
-        inter,
-        nnz,
-        ref0,
-        mv0,
-        ref1,
-        mv1,
-    );
-    if n != 0 {
-        return n;
-    }
-    let holds = is_kind(kind, w, x, y, inter, nnz, ref0, mv0, ref1, mv1);
-    if !holds {
-        return 12;
-    }
-    derive(
-        kind,
+        r.x,
+        r.y,
         false,
-        w,
-        x,
-        y,
+        known,
         inter,
         nnz,
         ref0,
@@ -128,8 +145,7 @@ pub fn derive_mb_kind<'a>(
         ref1,
         mv1,
         strengths,
-    );
-    0
+    )
 }
 
 // Strengths with flags that the caller sets where they are true.
@@ -146,38 +162,16 @@ pub fn derive_mb_bs<'a>(
 ) -> u32
     ensures { λ n. ⌜ FlagsOutcome size f (grids (now (inter .entry)) (now (nnz .entry)) (now (ref0 .entry)) (now (mv0 .entry)) (now (ref1 .entry)) (now (mv1 .entry))) (now (strengths .entry)) n (now (strengths .exit)) ⌝ }
 {
-    let x = f.x;
-    let y = f.y;
-    let t8 = f.t8;
-    let flat = f.flat;
-    let uniform = f.uniform;
-    let w = size.w;
-    let n = refuse_derive(
+    let known = Known::Flags {
+        flat: f.flat,
+        uniform: f.uniform,
+    };
+    derive_known(
         size,
-        x,
-        y,
-        strengths.len(),
-        inter,
-        nnz,
-        ref0,
-        mv0,
-        ref1,
-        mv1,
-    );
-    if n != 0 {
-        return n;
-    }
-    let bad = untrue_flags(f, w, inter, nnz, ref0, mv0, ref1, mv1);
-    if bad {
-        return 12;
-    }
-    let kind = kind_of(first_inter(inter, w, x, y), flat, uniform);
-    derive(
-        kind,
-        t8,
-        w,
-        x,
-        y,
+        f.x,
+        f.y,
+        f.t8,
+        known,
         inter,
         nnz,
         ref0,
@@ -185,8 +179,7 @@ pub fn derive_mb_bs<'a>(
         ref1,
         mv1,
         strengths,
-    );
-    0
+    )
 }
 
 // Strengths of a macroblock of which nothing is known but its transform.
@@ -203,32 +196,16 @@ pub fn derive_mb<'a>(
 ) -> u32
     ensures { λ n. ⌜ PlainOutcome size p (grids (now (inter .entry)) (now (nnz .entry)) (now (ref0 .entry)) (now (mv0 .entry)) (now (ref1 .entry)) (now (mv1 .entry))) (now (strengths .entry)) n (now (strengths .exit)) ⌝ }
 {
-    let x = p.x;
-    let y = p.y;
-    let t8 = p.t8;
-    let w = size.w;
-    let n = refuse_derive(
+    let known = Known::Flags {
+        flat: false,
+        uniform: false,
+    };
+    derive_known(
         size,
-        x,
-        y,
-        strengths.len(),
-        inter,
-        nnz,
-        ref0,
-        mv0,
-        ref1,
-        mv1,
-    );
-    if n != 0 {
-        return n;
-    }
-    let kind = kind_of(first_inter(inter, w, x, y), false, false);
-    derive(
-        kind,
-        t8,
-        w,
-        x,
-        y,
+        p.x,
+        p.y,
+        p.t8,
+        known,
         inter,
         nnz,
         ref0,
@@ -236,6 +213,5 @@ pub fn derive_mb<'a>(
         ref1,
         mv1,
         strengths,
-    );
-    0
+    )
 }

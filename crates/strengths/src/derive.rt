@@ -1,18 +1,19 @@
 // The 32 strengths of a macroblock whose grids have been checked.
 ghost use mathlib.Core.Path.{_≡_};
-ghost use mathlib.Core.Bool.{true, cond, _&&_, _||_};
+ghost use mathlib.Core.Bool.{true, cond, not, _&&_, _||_};
 ghost use Prim.Native.Nat.{_+_, _*_, _/_, _%_, _<_, _≤_};
 ghost use lib.Dec.{eqb, ltb};
-ghost use lib.ListN.{length};
+ghost use lib.ListN.{length, getD};
 ghost use Rattle.laws.specs.Some.{every};
-ghost use Rattle.motion.specs.Grids.{grids, blkAt};
+ghost use Rattle.motion.specs.Grids.{grids, blockRead};
 ghost use Rattle.motion.specs.Inner.{Hold};
 ghost use Rattle.motion.specs.Motion.{sameMotion};
 ghost use Rattle.strengths.specs.Blocks.{ownBlock};
 ghost use Rattle.strengths.specs.Inner.{InGrids};
-ghost use Rattle.strengths.specs.Strength.{border, skipped, qBlock, between, written};
+ghost use Rattle.strengths.specs.Strength.{border, skipped, outerIntra, between, written};
 ghost use Rattle.strengths.specs.ByKind.{inside, acrossBy, strengthBy};
 use crate::kinds::MbKind;
+use crate::kinds::Mode;
 use motion::blocks::Blk;
 use motion::blocks::bs_inter;
 use motion::blocks::same_motion;
@@ -23,19 +24,18 @@ use motion::grids::load;
 fn row_same<'a>(
     first: Blk,
     inter: &[u8],
-    nnz: &[u8],
     ref0: &[i8],
     mv0: &'a [i16],
     ref1: &[i8],
     mv1: &'a [i16],
     at: usize,
 ) -> bool
-    requires { ⌜ Hold (grids (now inter) (now nnz) (now ref0) (now mv0) (now ref1) (now mv1)) (at + 4) ⌝ }
-    ensures { λ r. ⌜ r ≡ every 4 (λ k. sameMotion (blkAt (grids (now (inter .entry)) (now (nnz .entry)) (now (ref0 .entry)) (now (mv0 .entry)) (now (ref1 .entry)) (now (mv1 .entry))) (at + k)) first) ⌝ }
+    requires { ⌜ Hold (now inter) (now ref0) (now mv0) (now ref1) (now mv1) (at + 4) ⌝ }
+    ensures { λ r. ⌜ r ≡ every 4 (λ k. sameMotion (blockRead (now (inter .entry)) (now (ref0 .entry)) (now (mv0 .entry)) (now (ref1 .entry)) (now (mv1 .entry)) (at + k)) first) ⌝ }
 {
     let mut same = true;
     for k in 0..4usize {
-        let b = load(inter, nnz, ref0, mv0, ref1, mv1, at + k);
+        let b = load(inter, ref0, mv0, ref1, mv1, at + k);
         same = same & same_motion(b, first);
     }
     same
@@ -43,7 +43,6 @@ fn row_same<'a>(
 
 pub fn own_same<'a>(
     inter: &[u8],
-    nnz: &[u8],
     ref0: &[i8],
     mv0: &'a [i16],
     ref1: &[i8],
@@ -51,13 +50,13 @@ pub fn own_same<'a>(
     at: usize,
     stride: usize,
 ) -> bool
-    requires { ⌜ Hold (grids (now inter) (now nnz) (now ref0) (now mv0) (now ref1) (now mv1)) (at + 3 * stride + 4) ⌝ }
-    ensures { λ r. ⌜ r ≡ every 4 (λ j. every 4 (λ k. sameMotion (blkAt (grids (now (inter .entry)) (now (nnz .entry)) (now (ref0 .entry)) (now (mv0 .entry)) (now (ref1 .entry)) (now (mv1 .entry))) (at + j * stride + k)) (blkAt (grids (now (inter .entry)) (now (nnz .entry)) (now (ref0 .entry)) (now (mv0 .entry)) (now (ref1 .entry)) (now (mv1 .entry))) at))) ⌝ }
+    requires { ⌜ Hold (now inter) (now ref0) (now mv0) (now ref1) (now mv1) (at + 3 * stride + 4) ⌝ }
+    ensures { λ r. ⌜ r ≡ every 4 (λ j. every 4 (λ k. sameMotion (blockRead (now (inter .entry)) (now (ref0 .entry)) (now (mv0 .entry)) (now (ref1 .entry)) (now (mv1 .entry)) (at + j * stride + k)) (blockRead (now (inter .entry)) (now (ref0 .entry)) (now (mv0 .entry)) (now (ref1 .entry)) (now (mv1 .entry)) at))) ⌝ }
 {
-    let first = load(inter, nnz, ref0, mv0, ref1, mv1, at);
+    let first = load(inter, ref0, mv0, ref1, mv1, at);
     let mut same = true;
     for j in 0..4usize {
-        same = same & row_same(first, inter, nnz, ref0, mv0, ref1, mv1, at + j * stride);
+        same = same & row_same(first, inter, ref0, mv0, ref1, mv1, at + j * stride);
     }
     same
 }
@@ -79,39 +78,56 @@ fn no_edge(t8: bool, x: usize, y: usize, k: usize) -> bool
     ((e == 0) & (by_way(k, x, y) == 0)) | (t8 & (e % 2 == 1))
 }
 
-fn outer_strength(p: Blk, q: Blk) -> u8
-    ensures { λ r. ⌜ r ≡ between true p q ⌝ }
+// Block i has coefficients.
+fn coded(nnz: &[u8], i: usize) -> bool
+    requires { ⌜ i < length (now nnz) ⌝ }
+    ensures { λ r. ⌜ r ≡ not (eqb (getD (now (nnz .entry)) i 0) 0) ⌝ }
+{
+    nnz[i] != 0
+}
+
+// Across a left edge, or else an upper one.
+fn outer_strength(mode: Mode, left: bool, coded: bool, p: Blk, q: Blk) -> u8
+    ensures { λ r. ⌜ r ≡ between (mode .limit) (outerIntra mode left) coded p q ⌝ }
 {
     if p.inter & q.inter {
-        return bs_inter(3, p, q);
+        return bs_inter(mode.limit, coded, p, q);
     }
-    4
+    if left { 4 } else { mode.upper }
 }
 
-fn coefficients(p: Blk, q: Blk) -> u8
-    ensures { λ r. ⌜ r ≡ cond (p .nz || q .nz) 2 0 ⌝ }
+fn coefficients(coded: bool) -> u8
+    ensures { λ r. ⌜ r ≡ cond coded 2 0 ⌝ }
 {
-    if p.nz | q.nz { 2 } else { 0 }
+    if coded { 2 } else { 0 }
 }
 
-fn inner_strength(kind: MbKind, p: Blk, q: Blk) -> u8
-    ensures { λ r. ⌜ r ≡ inside kind p q ⌝ }
+fn inner_strength(kind: MbKind, limit: u8, coded: bool, p: Blk, q: Blk) -> u8
+    ensures { λ r. ⌜ r ≡ inside kind limit coded p q ⌝ }
 {
     match kind {
         MbKind::Intra => 3,
         MbKind::Skip => 0,
-        MbKind::InterUniform => coefficients(p, q),
-        MbKind::Inter => bs_inter(3, p, q),
+        MbKind::InterUniform => coefficients(coded),
+        MbKind::Inter => bs_inter(limit, coded, p, q),
     }
 }
 
-fn edge_strength(kind: MbKind, first: bool, p: Blk, q: Blk) -> u8
-    ensures { λ r. ⌜ r ≡ acrossBy kind first p q ⌝ }
+fn edge_strength(
+    kind: MbKind,
+    mode: Mode,
+    outer: bool,
+    left: bool,
+    coded: bool,
+    p: Blk,
+    q: Blk,
+) -> u8
+    ensures { λ r. ⌜ r ≡ acrossBy kind mode outer left coded p q ⌝ }
 {
-    if first {
-        return outer_strength(p, q);
+    if outer {
+        return outer_strength(mode, left, coded, p, q);
     }
-    inner_strength(kind, p, q)
+    inner_strength(kind, mode.limit, coded, p, q)
 }
 
 fn q_block(at: usize, w: usize, k: usize) -> usize
@@ -128,6 +144,7 @@ fn q_block(at: usize, w: usize, k: usize) -> usize
 // Strength byte k.
 fn strength_at<'a>(
     kind: MbKind,
+    mode: Mode,
     t8: bool,
     w: usize,
     x: usize,
@@ -140,25 +157,28 @@ fn strength_at<'a>(
     mv1: &'a [i16],
     k: usize,
 ) -> u8
-    requires { ⌜ Hold (grids (now inter) (now nnz) (now ref0) (now mv0) (now ref1) (now mv1)) (ownBlock w x y 3 3 + 1) ⌝ }
+    requires { ⌜ Hold (now inter) (now ref0) (now mv0) (now ref1) (now mv1) (ownBlock w x y 3 3 + 1) ⌝ }
+    requires { ⌜ InGrids w x y (length (now nnz)) ⌝ }
     requires { ⌜ InGrids w x y 589824 ⌝ }
     requires { ⌜ k < 32 ⌝ }
-    ensures { λ r. ⌜ r ≡ strengthBy kind (grids (now (inter .entry)) (now (nnz .entry)) (now (ref0 .entry)) (now (mv0 .entry)) (now (ref1 .entry)) (now (mv1 .entry))) w t8 x y k ⌝ }
+    ensures { λ r. ⌜ r ≡ strengthBy kind mode (grids (now (inter .entry)) (now (nnz .entry)) (now (ref0 .entry)) (now (mv0 .entry)) (now (ref1 .entry)) (now (mv1 .entry))) w t8 x y k ⌝ }
 {
     if no_edge(t8, x, y, k) {
         return 0;
     }
     let at = 16 * (y * w) + 4 * x;
     let q = q_block(at, w, k);
-    let back = by_way(k, 1, 4 * w);
-    let b = load(inter, nnz, ref0, mv0, ref1, mv1, q);
-    let a = load(inter, nnz, ref0, mv0, ref1, mv1, q - back);
-    edge_strength(kind, k / 4 % 4 == 0, a, b)
+    let p = q - by_way(k, 1, 4 * w);
+    let either = coded(nnz, p) | coded(nnz, q);
+    let a = load(inter, ref0, mv0, ref1, mv1, p);
+    let b = load(inter, ref0, mv0, ref1, mv1, q);
+    edge_strength(kind, mode, k / 4 % 4 == 0, k < 16, either, a, b)
 }
 
 // All 32 bytes of macroblock (x, y).
 pub fn derive<'a>(
     kind: MbKind,
+    mode: Mode,
     t8: bool,
     w: usize,
     x: usize,
@@ -171,14 +191,15 @@ pub fn derive<'a>(
     mv1: &'a [i16],
     strengths: &mut [u8],
 )
-    requires { ⌜ Hold (grids (now inter) (now nnz) (now ref0) (now mv0) (now ref1) (now mv1)) (ownBlock w x y 3 3 + 1) ⌝ }
+    requires { ⌜ Hold (now inter) (now ref0) (now mv0) (now ref1) (now mv1) (ownBlock w x y 3 3 + 1) ⌝ }
+    requires { ⌜ InGrids w x y (length (now nnz)) ⌝ }
     requires { ⌜ InGrids w x y 589824 ⌝ }
     requires { ⌜ 32 * (y * w + x) + 32 ≤ length (now strengths) ⌝ }
-    ensures { λ _. ⌜ now (strengths .exit) ≡ written (y * w + x) (strengthBy kind (grids (now (inter .entry)) (now (nnz .entry)) (now (ref0 .entry)) (now (mv0 .entry)) (now (ref1 .entry)) (now (mv1 .entry))) w t8 x y) (now (strengths .entry)) ⌝ }
+    ensures { λ _. ⌜ now (strengths .exit) ≡ written (y * w + x) (strengthBy kind mode (grids (now (inter .entry)) (now (nnz .entry)) (now (ref0 .entry)) (now (mv0 .entry)) (now (ref1 .entry)) (now (mv1 .entry))) w t8 x y) (now (strengths .entry)) ⌝ }
 {
     let i = 32 * (y * w + x);
     for k in 0..32usize {
-        let s = strength_at(kind, t8, w, x, y, inter, nnz, ref0, mv0, ref1, mv1, k);
+        let s = strength_at(kind, mode, t8, w, x, y, inter, nnz, ref0, mv0, ref1, mv1, k);
         strengths[i + k] = s;
     }
 }

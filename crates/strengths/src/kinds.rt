@@ -1,12 +1,25 @@
 // What a caller may know of a macroblock beforehand, and the requests that carry it beside the coordinates.
 ghost use mathlib.Core.Path.{_≡_};
-ghost use Rattle.strengths.specs.ByKind.{kindBy, kindOf};
+ghost use Rattle.strengths.specs.ByKind.{kindBy, kindOf, saysAny, untrueBy, kindKnown};
+
+// What strengths take of the picture's mode: the most by which near vectors differ vertically, and the
+// strength of an upper edge beside an intra block.
+pub struct Mode {
+    pub limit: u8,
+    pub upper: u8,
+}
 
 pub enum MbKind {
     Intra,
     Skip,
     InterUniform,
     Inter,
+}
+
+// What a caller says of a macroblock: its kind, or flags that it sets only where they are true.
+pub enum Known {
+    Stated(MbKind),
+    Flags { flat: bool, uniform: bool },
 }
 
 // One macroblock with its kind.
@@ -59,4 +72,35 @@ pub fn kind_of(first: bool, flat: bool, uniform: bool) -> MbKind
         return MbKind::InterUniform;
     }
     MbKind::Inter
+}
+
+// ---- what a caller says: whether it is anything, whether it is untrue, and the kind to go by
+
+pub fn says_any(known: Known) -> bool
+    ensures { λ r. ⌜ r ≡ saysAny known ⌝ }
+{
+    match known {
+        Known::Stated(_) => true,
+        Known::Flags { flat, uniform } => flat | uniform,
+    }
+}
+
+pub fn untrue_by(known: Known, first: bool, same: bool, coded: bool) -> bool
+    ensures { λ r. ⌜ r ≡ untrueBy known first same coded ⌝ }
+{
+    match known {
+        Known::Stated(kind) => !kind_holds(kind, first, same, coded),
+        Known::Flags { flat, uniform } => {
+            (flat & !(first & same & !coded)) | (uniform & !(first & same))
+        }
+    }
+}
+
+pub fn kind_known(known: Known, first: bool) -> MbKind
+    ensures { λ r. ⌜ r ≡ kindKnown known first ⌝ }
+{
+    match known {
+        Known::Stated(kind) => kind,
+        Known::Flags { flat, uniform } => kind_of(first, flat, uniform),
+    }
 }

@@ -5,21 +5,21 @@ use native.Mathlib.Omega.{arith}
 use Rattle.laws.specs.Some.{every}
 use Rattle.laws.proofs.Loop.{mul-below}
 use Rattle.laws.proofs.Some.{every-more, every-end, tests}
-use Rattle.motion.specs.Grids.{grids, blkAt}
+use Rattle.motion.specs.Grids.{blockRead}
 use Rattle.motion.specs.Motion.{sameMotion}
 use Rattle.motion.proofs.Laws.{hold-less}
 use Rattle.strengths.proofs.derive.own_same.Statement.{statement}
 use Rattle.strengths.proofs.derive.own_same.Tie as tie
 
 abbrev Inv : tie.InvT-loop
-Inv inter nnz ref0 mv0 ref1 mv1 at stride first same₀ j₀ same j =
-    (j ≤ 4) × (same ≡ every j (λ i. every 4 (λ k. sameMotion (blkAt (grids inter nnz ref0 mv0 ref1 mv1) (at + i * stride + k)) first)))
+Inv inter ref0 mv0 ref1 mv1 at stride first same₀ j₀ same j =
+    (j ≤ 4) × (same ≡ every j (λ i. every 4 (λ k. sameMotion (blockRead inter ref0 mv0 ref1 mv1 (at + i * stride + k)) first)))
 
 abbrev μ : tie.MeasureT-loop
-μ inter nnz ref0 mv0 ref1 mv1 at stride first same₀ j₀ same j = 4 - j
+μ inter ref0 mv0 ref1 mv1 at stride first same₀ j₀ same j = 4 - j
 
 -- the rows walked lie before the last
-bound : (c : tie.In-loop Inv μ) → let a = c .before .before .before .before .before .args in c .before .loop .j * a .stride ≤ 3 * a .stride
+bound : (c : tie.In-loop Inv μ) → let a = c .before .before .before .before .args in c .before .loop .j * a .stride ≤ 3 * a .stride
 bound c = mul-below _ 4 _ (omega arith)
 
 again : tie.Need-loop-again Inv μ
@@ -34,11 +34,11 @@ own-same-spec =
     (tie.spec
     Inv
     μ
-    (λ c κs. hold-less (c .before .before .pre) (omega arith))
+    (λ c κs. hold-less (c .before .pre) (omega arith))
     (λ c. search tests)
     (λ c. record { fits = omega (arith, bound c) })
     (λ c. record { fits = omega (arith, bound c) })
-    (λ c κs. hold-less (c .before .before .before .before .before .pre) (omega (arith, bound c)))
+    (λ c κs. hold-less (c .before .before .before .before .pre) (omega (arith, bound c)))
     (λ c. search tests)
     (λ c. search tests)
     again

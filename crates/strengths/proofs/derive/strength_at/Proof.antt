@@ -32,9 +32,11 @@ returns c = simp (sym (c .before .no-edge .ensures) ∙ c .if1 .taken)
 returns-2 : tie.Need-returns-2
 unfolding strengthBy
 returns-2 c =
-    let e = c .before .before .before .before .before in
-    simp (busy e)
-    (rw (c .before .load2 .ensures, c .before .before .load .ensures, c .before .before .before .by-way .ensures, c .before .before .before .before .q-block .ensures .0) at (c .edge-strength .ensures))
+    let q = c .before .before .before .before .before .before .q-block .ensures .0 in
+    let p = c .before .before .before .before .before .by-way .ensures in
+    let i = c .before .before .before .before .coded .ensures in
+    let j = c .before .before .before .coded2 .ensures in
+    simp (busy (c .before .before .before .before .before .before .before)) (rw (c .before .load2 .ensures, c .before .before .load .ensures, i, j, p, q) at (c .edge-strength .ensures))
 
 pub strength-at-spec : {M : Type 1} → statement M
 strength-at-spec =
@@ -49,8 +51,10 @@ strength-at-spec =
     (λ c κs. search needs)
     (λ c. search needs)
     (λ c κs. search needs)
-    (λ c κs. hold-less (c .before .before .before .before .before .before .pre .0) (omega (arith, most (c .before))))
-    (λ c. omega (arith, fits (c .before)))
-    (λ c κs. hold-less (c .before .before .before .before .before .before .before .pre .0) (omega (arith, most (c .before .before))))
+    (λ c. omega (arith, fits c))
+    (λ c κs. omega (arith, most (c .before), c .before .before .before .before .before .before .pre .1 .0))
+    (λ c κs. omega (arith, most (c .before .before), c .before .before .before .before .before .before .before .pre .1 .0))
+    (λ c κs. hold-less (c .before .before .before .before .before .before .before .before .pre .0) (omega (arith, most (c .before .before .before))))
+    (λ c κs. hold-less (c .before .before .before .before .before .before .before .before .before .pre .0) (omega (arith, most (c .before .before .before .before))))
     (λ c κs. search needs)
     returns-2)

@@ -1,0 +1,77 @@
+-- `derive_known`: the three ways out are those of the promise. Assumes nothing.
+use borrow.Author.Needs.{needs}
+use mathlib.Core.Path.{_≡_, sym, ap, _∙_}
+use mathlib.Core.Bool.{Bool, true}
+use lib.ListN.{length}
+use Rattle.laws.specs.Refusal.{refusal}
+use Rattle.motion.specs.Grids.{Grids, grids}
+use Rattle.strengths.specs.Calls.{deriveChecks}
+use Rattle.strengths.specs.Kinds.{isKind}
+use Rattle.strengths.specs.ByKind.{kindKnown}
+use Rattle.strengths.specs.declared.kinds.MbKind.{MbKind}
+use Rattle.strengths.proofs.DeriveOutcomes.{passed-ready, agrees, refused, untrue-12, done}
+use Rattle.strengths.proofs.GridsFit.{Ready}
+use Rattle.strengths.proofs.InterAgrees.{known-kind}
+use Rattle.strengths.proofs.calls.derive_known.Statement.{statement}
+use Rattle.strengths.proofs.calls.derive_known.Tie as tie
+
+abbrev given : tie.Start → Grids
+given c = let a = c .args in grids (a .inter .now) (a .nnz .now) (a .ref0 .now) (a .mv0 .now) (a .ref1 .now) (a .mv1 .now)
+
+-- where the call goes on after checks 1 to 11
+abbrev start : tie.Else1 → tie.Start
+start c = c .before .before .before .before .before
+
+zero : (c : tie.Else1) → let s = start c in let a = s .args in refusal (deriveChecks (a .size) (a .x) (a .y) (given s) (length (a .strengths .now))) ≡ 0
+zero c = sym (c .before .refuse-derive .ensures) ∙ c .if1 .left
+
+ok : (c : tie.Else1) → let s = start c in let a = s .args in Ready (a .size) (a .x) (a .y) (given s) (length (a .strengths .now))
+ok c = let s = start c in let a = s .args in passed-ready (a .size) (a .x) (a .y) (given s) (length (a .strengths .now)) (zero c)
+
+returns : tie.Need-returns
+returns c =
+    let s = c .before .before .before .before .before in
+    let a = s .args in
+    refused (a .size) (a .x) (a .y) (a .t8) (given s) _ (a .strengths .now) _ (c .before .refuse-derive .ensures) (c .if1 .taken)
+
+untrue : tie.Need-untrue-known-requires
+untrue c κs =
+    let s = start c in
+    let a = s .args in
+    (ok c .grids, (ok c .nnz, (ok c .place, agrees (a .size) (a .x) (a .y) (given s) (length (a .strengths .now)) (zero c))))
+
+returns-2 : tie.Need-returns-2
+returns-2 c =
+    let e = c .before .before in
+    let s = start e in
+    let a = s .args in
+    untrue-12 (a .size) (a .x) (a .y) (a .t8) (given s) _ (a .strengths .now) (zero e) (sym (c .before .untrue-known .ensures) ∙ c .if2 .taken)
+
+inter : tie.Need-first-inter-requires
+inter c κs = ok (c .before .before) .inter
+
+derives : tie.Need-derive-requires
+derives c κs = let e = ok (c .before .before .before .before .before) in (e .grids, (e .nnz, (e .place, e .room)))
+
+-- the kind that is handed on is true
+true-kind : (c : tie.After-kind-known) → let s = start (c .before .before .before .before) in let a = s .args in isKind (given s) (a .size .w) (a .x) (a .y) (c .kind-known .result) ≡ true
+true-kind c =
+    let t = c .before .before in
+    let e = t .before .before in
+    let s = start e in
+    let a = s .args in
+    ap (λ (k : MbKind). isKind (given s) (a .size .w) (a .x) (a .y) k) (c .kind-known .ensures ∙ ap (λ (b : Bool). kindKnown (a .known) b) (c .before .first-inter .ensures))
+    ∙ known-kind (given s) (a .size .w) (a .x) (a .y) (agrees (a .size) (a .x) (a .y) (given s) (length (a .strengths .now)) (zero e)) (a .known) (sym (t .before .untrue-known .ensures) ∙ t .if2 .left)
+
+returns-3 : tie.Need-returns-3
+returns-3 c =
+    let k = c .before .before .before .before in
+    let t = k .before .before in
+    let e = t .before .before in
+    let s = start e in
+    let a = s .args in
+    done (a .size) (a .x) (a .y) (a .t8) (given s) _ (a .strengths .now) (k .kind-known .result) _ (zero e) (sym (t .before .untrue-known .ensures) ∙ t .if2 .left) (true-kind k) (c .before .before .derive .ensures)
+
+pub derive-known-spec : {M : Type 1} → statement M
+derive-known-spec =
+    tie.close (tie.spec (λ c κs. search needs) returns untrue returns-2 inter (λ c κs. search needs) derives (λ c. search needs) returns-3)

@@ -59,12 +59,11 @@ fn chroma_edge_if(
     }
 }
 
-// The luma edges of one direction: its border if that is on, and those inside if they are.
+// The luma edges of one direction. `edge0` says whether its border is on.
 fn luma_way(
     plane: &mut [u8],
-    on: bool,
-    inner: bool,
-    t8: bool,
+    edge0: bool,
+    on: Switches,
     origin: usize,
     along: usize,
     step: usize,
@@ -72,20 +71,24 @@ fn luma_way(
     base: usize,
     by: WayLevels,
 )
-    requires { ⌜ (on ≡ true → 4 * step ≤ origin) × (origin + 15 * along + 15 * step < length (now plane)) × (base + 16 ≤ length (now strengths)) ⌝ }
+    requires { ⌜ (edge0 ≡ true → 4 * step ≤ origin) × (origin + 15 * along + 15 * step < length (now plane)) × (base + 16 ≤ length (now strengths)) ⌝ }
     requires { ⌜ Straight 16 along step ⌝ }
-    ensures { λ _. ⌜ now (plane .exit) ≡ lumaWay (lumaWith eight (by .border)) (lumaWith eight (by .inside)) (lumaOn on inner t8) (after base (entries (now (strengths .entry)))) origin along step (now (plane .entry)) ⌝ }
+    ensures { λ _. ⌜ now (plane .exit) ≡ lumaWay (lumaWith eight (by .border)) (lumaWith eight (by .inside)) (lumaOn edge0 (on .inner) (on .t8)) (after base (entries (now (strengths .entry)))) origin along step (now (plane .entry)) ⌝ }
 {
     let q1 = origin + 4 * step;
     let q2 = origin + 8 * step;
     let q3 = origin + 12 * step;
-    let odd = inner & !t8;
+    let s1 = base + 4;
+    let s2 = base + 8;
+    let s3 = base + 12;
+    let inner = on.inner;
+    let odd = inner & !on.t8;
     let border = by.border;
     let inside = by.inside;
-    luma_edge_if(on, plane, origin, along, step, strengths, base, border);
-    luma_edge_if(odd, plane, q1, along, step, strengths, base + 4, inside);
-    luma_edge_if(inner, plane, q2, along, step, strengths, base + 8, inside);
-    luma_edge_if(odd, plane, q3, along, step, strengths, base + 12, inside);
+    luma_edge_if(edge0, plane, origin, along, step, strengths, base, border);
+    luma_edge_if(odd, plane, q1, along, step, strengths, s1, inside);
+    luma_edge_if(inner, plane, q2, along, step, strengths, s2, inside);
+    luma_edge_if(odd, plane, q3, along, step, strengths, s3, inside);
 }
 
 // The chroma edges of one direction in both planes, with the strengths of luma's edges 0 and 2. Where both
@@ -93,8 +96,8 @@ fn luma_way(
 fn chroma_way(
     u: &mut [u8],
     v: &mut [u8],
-    on: bool,
-    inner: bool,
+    edge0: bool,
+    on: Switches,
     origin: usize,
     along: usize,
     step: usize,
@@ -103,23 +106,15 @@ fn chroma_way(
     by_u: WayLevels,
     by_v: WayLevels,
 )
-    requires { ⌜ (on ≡ true → 2 * step ≤ origin) × (origin + 7 * along + 7 * step < length (now u)) × (origin + 7 * along + 7 * step < length (now v)) × (base + 16 ≤ length (now strengths)) ⌝ }
+    requires { ⌜ (edge0 ≡ true → 2 * step ≤ origin) × (origin + 7 * along + 7 * step < length (now u)) × (origin + 7 * along + 7 * step < length (now v)) × (base + 16 ≤ length (now strengths)) ⌝ }
     requires { ⌜ Straight 8 along step ⌝ }
-    ensures { λ _. ⌜ now (u .exit) ≡ chromaWay (chromaWith eight («by_u» .border)) (chromaWith eight («by_u» .inside)) (outerOr on inner) (after base (entries (now (strengths .entry)))) origin along step (now (u .entry)) ⌝ }
-    ensures { λ _. ⌜ now (v .exit) ≡ chromaWay (chromaWith eight («by_v» .border)) (chromaWith eight («by_v» .inside)) (outerOr on inner) (after base (entries (now (strengths .entry)))) origin along step (now (v .entry)) ⌝ }
+    ensures { λ _. ⌜ now (u .exit) ≡ chromaWay (chromaWith eight («by_u» .border)) (chromaWith eight («by_u» .inside)) (outerOr edge0 (on .inner)) (after base (entries (now (strengths .entry)))) origin along step (now (u .entry)) ⌝ }
+    ensures { λ _. ⌜ now (v .exit) ≡ chromaWay (chromaWith eight («by_v» .border)) (chromaWith eight («by_v» .inside)) (outerOr edge0 (on .inner)) (after base (entries (now (strengths .entry)))) origin along step (now (v .entry)) ⌝ }
 {
-    if on & inner {
-        chroma_edges(
-            u,
-            v,
-            origin - 2 * step,
-            along,
-            step,
-            strengths,
-            base,
-            by_u,
-            by_v,
-        );
+    let inner = on.inner;
+    if edge0 & inner {
+        let at = origin - 2 * step;
+        chroma_edges(u, v, at, along, step, strengths, base, by_u, by_v);
         return;
     }
     let q = origin + 4 * step;
@@ -128,8 +123,8 @@ fn chroma_way(
     let border_v = by_v.border;
     let inside_u = by_u.inside;
     let inside_v = by_v.inside;
-    chroma_edge_if(on, u, origin, along, step, strengths, base, border_u);
-    chroma_edge_if(on, v, origin, along, step, strengths, base, border_v);
+    chroma_edge_if(edge0, u, origin, along, step, strengths, base, border_u);
+    chroma_edge_if(edge0, v, origin, along, step, strengths, base, border_v);
     chroma_edge_if(inner, u, q, along, step, strengths, second, inside_u);
     chroma_edge_if(inner, v, q, along, step, strengths, second, inside_v);
 }
@@ -166,32 +161,11 @@ pub fn luma_plane(
 {
     let origin = at.origin;
     let stride = at.stride;
+    let next = base + 16;
     let left = left_way(m);
     let top = top_way(m);
-    luma_way(
-        plane,
-        on.left,
-        on.inner,
-        on.t8,
-        origin,
-        stride,
-        1,
-        strengths,
-        base,
-        left,
-    );
-    luma_way(
-        plane,
-        on.top,
-        on.inner,
-        on.t8,
-        origin,
-        1,
-        stride,
-        strengths,
-        base + 16,
-        top,
-    );
+    luma_way(plane, on.left, on, origin, stride, 1, strengths, base, left);
+    luma_way(plane, on.top, on, origin, 1, stride, strengths, next, top);
 }
 
 // All edges of both chroma planes.
@@ -211,37 +185,25 @@ pub fn chroma_planes(
 {
     let origin = at.origin;
     let stride = at.stride;
-    let horizontal = base + 16;
-    let left_u = left_way(by_u);
-    let left_v = left_way(by_v);
-    let top_u = top_way(by_u);
-    let top_v = top_way(by_v);
+    let next = base + 16;
+    let lu = left_way(by_u);
+    let lv = left_way(by_v);
+    let tu = top_way(by_u);
+    let tv = top_way(by_v);
     chroma_way(
         u,
         v,
         on.left,
-        on.inner,
+        on,
         origin,
         stride,
         1,
         strengths,
         base,
-        left_u,
-        left_v,
+        lu,
+        lv,
     );
-    chroma_way(
-        u,
-        v,
-        on.top,
-        on.inner,
-        origin,
-        1,
-        stride,
-        strengths,
-        horizontal,
-        top_u,
-        top_v,
-    );
+    chroma_way(u, v, on.top, on, origin, 1, stride, strengths, next, tu, tv);
 }
 
 // All 32 strengths are 0.

@@ -3,11 +3,12 @@
 ghost use mathlib.Core.Path.{_≡_};
 ghost use mathlib.Core.Bool.{true, false};
 ghost use Prim.Native.Nat.{ℕ, _+_, _*_, _<_, _≤_};
-ghost use lib.Dec.{eqb};
+ghost use lib.Dec.{eqb, ltb};
 ghost use lib.IntN.{pos};
 ghost use lib.ListN.{length};
+ghost use Rattle.lines.specs.Depth.{eight};
 ghost use Rattle.lines.specs.Inner.{tables};
-ghost use Rattle.edges.specs.Levels.{planOf};
+ghost use Rattle.edges.specs.Levels.{levelsOf, planOf};
 ghost use Rattle.edges.specs.Picture.{entries, flagAt, beforeOf, heldBy};
 use crate::Offsets;
 use crate::levels::Levels;
@@ -63,8 +64,20 @@ fn qp_before(qps: &[u8], there: bool, i: usize, d: usize) -> i16
     qp_of(qps[i])
 }
 
-// Of macroblock (x, row), in a picture w macroblocks wide whose edges are all filtered. Its luma places fit a
-// usize.
+// The thresholds of macroblock (x, row), in a picture w macroblocks wide.
+fn levels_at(t: &[u8; 282], w: usize, x: usize, row: usize, qps: &[u8], o: Offsets) -> Levels
+    requires { ⌜ now t ≡ tables ⌝ }
+    requires { ⌜ (x < w) × (row * w + w ≤ length (now qps)) ⌝ }
+    ensures { λ r. ⌜ r ≡ levelsOf eight (pos (entries (now (qps .entry)) (row * w + x))) (pos (entries (now (qps .entry)) (beforeOf (ltb 0 x) (row * w + x) 1))) (pos (entries (now (qps .entry)) (beforeOf (ltb 0 row) (row * w + x) w))) (o .a) (o .b) (o .chroma) (o .chroma) ⌝ }
+{
+    let i = row * w + x;
+    let qp = qp_of(qps[i]);
+    let qp_left = qp_before(qps, 0 < x, i, 1);
+    let qp_above = qp_before(qps, 0 < row, i, w);
+    of_planes(t, qp, qp_left, qp_above, o)
+}
+
+// All of it, where every edge with a neighbour is filtered. The macroblock's luma places fit a usize.
 pub fn plan_at(
     t: &[u8; 282],
     w: usize,
@@ -79,20 +92,15 @@ pub fn plan_at(
     ensures { λ r. ⌜ ((strengths : ℕ → ℕ) → r ≡ planOf (heldBy w strengths (now (qps .entry)) (now (t8s .entry)) o) x row) ⌝ }
 {
     let p = row * w;
-    let i = p + x;
-    let left = 0 < x;
-    let top = 0 < row;
     let origin = 256 * p + 16 * x;
     let stride = 16 * w;
     let chroma_origin = 64 * p + 8 * x;
     let chroma_stride = 8 * w;
-    let t8 = flag(t8s, i);
-    let qp = qp_of(qps[i]);
-    let qp_left = qp_before(qps, left, i, 1);
-    let qp_above = qp_before(qps, top, i, w);
+    let t8 = flag(t8s, p + x);
+    let levels = levels_at(t, w, x, row, qps, o);
     let on = Switches {
-        left,
-        top,
+        left: 0 < x,
+        top: 0 < row,
         inner: true,
         t8,
     };
@@ -101,7 +109,6 @@ pub fn plan_at(
         origin: chroma_origin,
         stride: chroma_stride,
     };
-    let levels = of_planes(t, qp, qp_left, qp_above, o);
     Plan {
         on,
         luma,

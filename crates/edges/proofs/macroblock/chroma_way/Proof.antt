@@ -7,8 +7,8 @@ use Rattle.edges.proofs.EdgeByEdge.{chroma-two, chroma-pair-on}
 use Rattle.edges.proofs.macroblock.chroma_way.Statement.{statement}
 use Rattle.edges.proofs.macroblock.chroma_way.Tie as tie
 
-sub-chroma-edges : tie.Need-sub-chroma-edges
-sub-chroma-edges c = let s = c .before .before .before .before .before .before in s .pre .0 .0 (and-true (s .args .on) (s .args .inner) (c .before .before .if1 .taken) .0)
+sub-at : tie.Need-sub-at
+sub-at c = let s = c .before .before .before .before in s .pre .0 .0 (and-true (s .args .edge0) (s .args .on .inner) (c .if1 .taken) .0)
 
 returns : tie.Need-returns
 returns c =
@@ -16,9 +16,9 @@ returns c =
     let i = w .before .before .before in
     let s = i .before .before .before .before in
     let a = s .args in
-    let h = s .pre .0 .0 (and-true (a .on) (a .inner) (i .if1 .taken) .0) in (
-      chroma-pair-on (entries (a .strengths .now)) (a .base) (a .origin) (a .along) (a .step) _ _ (a .on) (a .inner) (a .u .now) (i .if1 .taken) h (w .chroma-edges .ensures .0),
-      chroma-pair-on (entries (a .strengths .now)) (a .base) (a .origin) (a .along) (a .step) _ _ (a .on) (a .inner) (a .v .now) (i .if1 .taken) h (w .chroma-edges .ensures .1),
+    let h = s .pre .0 .0 (and-true (a .edge0) (a .on .inner) (i .if1 .taken) .0) in (
+      chroma-pair-on (entries (a .strengths .now)) (a .base) (a .origin) (a .along) (a .step) _ _ (a .edge0) (a .on .inner) (a .u .now) (i .if1 .taken) h (w .chroma-edges .ensures .0),
+      chroma-pair-on (entries (a .strengths .now)) (a .base) (a .origin) (a .along) (a .step) _ _ (a .edge0) (a .on .inner) (a .v .now) (i .if1 .taken) h (w .chroma-edges .ensures .1),
     )
 
 chroma-edge-if-requires-2 : tie.Need-chroma-edge-if-requires-2
@@ -31,8 +31,8 @@ returns-2 c =
     let k2 = k3 .before .before .before .before in
     let k1 = k2 .before .before .before .before in
     let a = k1 .before .before .before .before .before .before .before .before .before .before .args in (
-      chroma-two (entries (a .strengths .now)) (a .base) (a .origin) (a .along) (a .step) _ _ (a .on) (a .inner) (a .u .now) (k1 .chroma-edge-if .ensures) (k3 .chroma-edge-if3 .ensures),
-      chroma-two (entries (a .strengths .now)) (a .base) (a .origin) (a .along) (a .step) _ _ (a .on) (a .inner) (a .v .now) (k2 .chroma-edge-if2 .ensures) (k4 .chroma-edge-if4 .ensures),
+      chroma-two (entries (a .strengths .now)) (a .base) (a .origin) (a .along) (a .step) _ _ (a .edge0) (a .on .inner) (a .u .now) (k1 .chroma-edge-if .ensures) (k3 .chroma-edge-if3 .ensures),
+      chroma-two (entries (a .strengths .now)) (a .base) (a .origin) (a .along) (a .step) _ _ (a .edge0) (a .on .inner) (a .v .now) (k2 .chroma-edge-if2 .ensures) (k4 .chroma-edge-if4 .ensures),
     )
 
 pub chroma-way-spec : {M : Type 1} → statement M
@@ -40,7 +40,7 @@ chroma-way-spec =
     tie.close
     (tie.spec
     (λ c. search needs)
-    sub-chroma-edges
+    sub-at
     (λ c κs. search needs)
     (λ c. search needs)
     (λ c. search needs)

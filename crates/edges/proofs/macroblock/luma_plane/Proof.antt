@@ -33,10 +33,10 @@ pub luma-plane-spec : {M : Type 1} → statement M
 luma-plane-spec =
     tie.close
     (tie.spec
+    (λ c. search needs)
     (λ c κs. search needs)
     (λ c κs. search needs)
     luma-way-requires
-    (λ c. search needs)
     luma-way-requires-2
     (λ c. search needs)
     returns)

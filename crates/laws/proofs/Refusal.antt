@@ -1,5 +1,5 @@
 -- Laws of a chain of checks: it may be cut in two, and what the answer 0 tells. Assumes nothing.
-use mathlib.Core.Path.{_≡_, refl, sym, _∙_}
+use mathlib.Core.Path.{_≡_, refl, sym, ap, _∙_}
 use mathlib.Core.Bool.{Bool, true, false, cond, _&&_}
 use mathlib.Core.List.{List, [], _∷_, _++_}
 use Prim.Native.Nat.{ℕ}
@@ -48,20 +48,20 @@ refusal-cut (c ∷ cs) ds h = let p = parts (c .0) (numbered cs) h in go (c .1) 
     go true n e = rw (ne-eqb (c .0) 0 n)
     go false n e = e
 
--- none of the first applies, and none of the others
+-- the same for checks that are made in parts: one of the first applies, or none does
+pub first-applies : (cs ds : List (ℕ × Bool)) → T (numbered cs) → {n : ℕ} → n ≡ refusal cs → (n ≡ 0 → ⊥) → n ≡ refusal (cs ++ ds)
+first-applies cs ds t e h =
+    e ∙ sym (refusal-cut cs ds t ∙ ap (λ (b : Bool). cond b (refusal ds) (refusal cs)) (ne-eqb (refusal cs) 0 (λ k. h (e ∙ k))))
+
+pub first-passed : (cs ds : List (ℕ × Bool)) → T (numbered cs) → refusal cs ≡ 0 → {n : ℕ} → n ≡ refusal ds → n ≡ refusal (cs ++ ds)
+first-passed cs ds t z e = e ∙ sym (refusal-cut cs ds t ∙ ap (λ (k : ℕ). cond (eqb k 0) (refusal ds) k) z)
+
+-- where all pass, the first do
 pub refusal-left : (cs ds : List (ℕ × Bool)) → T (numbered cs) → refusal (cs ++ ds) ≡ 0 → refusal cs ≡ 0
 refusal-left [] ds h e = refl
 refusal-left (c ∷ cs) ds h e = let p = parts (c .0) (numbered cs) h in go (c .1) (p .0) (refusal-left cs ds (p .1)) e
   where
     go : (b : Bool) → (c .0 ≡ 0 → ⊥) → (refusal (cs ++ ds) ≡ 0 → refusal cs ≡ 0) → cond b (c .0) (refusal (cs ++ ds)) ≡ 0 → cond b (c .0) (refusal cs) ≡ 0
-    go true n k z = absurd (n z)
-    go false n k z = k z
-
-pub refusal-right : (cs ds : List (ℕ × Bool)) → T (numbered cs) → refusal (cs ++ ds) ≡ 0 → refusal ds ≡ 0
-refusal-right [] ds h e = e
-refusal-right (c ∷ cs) ds h e = let p = parts (c .0) (numbered cs) h in go (c .1) (p .0) (refusal-right cs ds (p .1)) e
-  where
-    go : (b : Bool) → (c .0 ≡ 0 → ⊥) → (refusal (cs ++ ds) ≡ 0 → refusal ds ≡ 0) → cond b (c .0) (refusal (cs ++ ds)) ≡ 0 → refusal ds ≡ 0
     go true n k z = absurd (n z)
     go false n k z = k z
 

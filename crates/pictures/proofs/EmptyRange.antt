@@ -9,12 +9,11 @@ use borrow.Author.Tests.{le-ltb}
 use lib.Dec.{eqb, ltb}
 use lib.ListN.{length}
 use Rattle.laws.specs.Refusal.{refusal}
-use Rattle.laws.proofs.Refusal.{skip}
+use Rattle.laws.proofs.Refusal.{first-passed, skip}
 use Rattle.edges.specs.Picture.{Planes, rowsOf}
 use Rattle.edges.proofs.Pictures.{rows-none}
 use Rattle.pictures.specs.Checks.{Lent, heldOf, badFlag, badQp, badStrength, someBad, someBadFlag, pictureChecks, gridChecks, entryChecks}
 use Rattle.pictures.specs.Rows.{badRange, qpsFrom, rowReads, rowAnswer, RowOutcome}
-use Rattle.pictures.proofs.Parts.{first-passed}
 use Rattle.pictures.proofs.SomeBad.{some-bad-none}
 
 module _ (d : Lent) (p : Planes) (a : ℕ) where

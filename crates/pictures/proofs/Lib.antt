@@ -3,7 +3,6 @@ pub mod Examples
 pub mod Fitting
 pub mod FromGrids
 pub mod Left
-pub mod Parts
 pub mod Refused
 pub mod RowBounds
 pub mod RowCalls

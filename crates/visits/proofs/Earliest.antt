@@ -70,10 +70,10 @@ before W x y hx l = go (ℕ-discrete W 1) (ℕ-discrete x 0)
     go (yes e) d =
         let a = narrow W x y e in
         record { nx = x; ny = y - 1; column = hx; near = is-up refl (omega arith); just = omega (arith, narrow W x (y - 1) e) }
-    go (no h) (yes size) =
+    go (no h) (yes z) =
         let a = broad W x y h in
         record { nx = x + 1; ny = y - 1; column = omega arith; near = is-up-right refl (omega arith); just = omega (arith, broad W (x + 1) (y - 1) h) }
-    go (no h) (no size) =
+    go (no h) (no z) =
         record { nx = x - 1; ny = y; column = omega arith; near = is-left (omega arith) refl; just = omega (arith, broad W (x - 1) y h, broad W x y h) }
 
 -- ---- by index

@@ -1,6 +1,6 @@
 -- The old rule on a picture of 2 by 2, for any filter: what its order comes to, what raster order comes to,
 -- and that ours refuses it. One sample in which the two differ refutes the old rule. Assumes nothing.
-use mathlib.Core.Path.{_≡_, refl, ap, _∙_}
+use mathlib.Core.Path.{_≡_, ap, _∙_}
 use mathlib.Core.List.{List, [], _∷_}
 use Prim.Native.Nat.{ℕ}
 use borrow.Author.Tests.{eq-eqb}

@@ -78,7 +78,7 @@ module _ (W H : ℕ) where
       w = wide W H i (a .0)
 
       go : Dec (0 < roundOf W i) → roundOf W i < suc k
-      go (no size) = omega arith
+      go (no z) = omega arith
       go (yes l) =
           let p = dep-just W i w l in
           let b = dep-lt W w (p .0) i (p .1) in

@@ -9,12 +9,11 @@ use native.Mathlib.Omega.{arith}
 use lib.ListN.{length}
 use Rattle.laws.specs.Refusal.{refusal}
 use Rattle.laws.proofs.Bools.{or-false}
-use Rattle.laws.proofs.Refusal.{passes}
+use Rattle.laws.proofs.Refusal.{first-applies, first-passed, passes}
 use Rattle.strengths.proofs.Sized.{Sized, sized}
 use Rattle.pictures.specs.Checks.{Lent, lent, pictureChecks, gridChecks, entryChecks}
 use Rattle.pictures.specs.Rows.{badRange, rowReads}
 use Rattle.pictures.proofs.Fitting.{fitting}
-use Rattle.pictures.proofs.Parts.{first-applies, first-passed}
 use Rattle.pictures.proofs.RowCalls.{RowsFit, rows-fit, ends}
 use Rattle.pictures.proofs.rows.refuse_rows.Statement.{statement}
 use Rattle.pictures.proofs.rows.refuse_rows.Tie as tie

@@ -10,12 +10,11 @@ use lib.Dec.{eqb}
 use lib.ListN.{length}
 use Rattle.laws.specs.Refusal.{refusal}
 use Rattle.laws.proofs.Bools.{or-false}
-use Rattle.laws.proofs.Refusal.{passes}
+use Rattle.laws.proofs.Refusal.{first-applies, first-passed, passes}
 use Rattle.strengths.specs.Checks.{outsideOf}
 use Rattle.strengths.proofs.Sized.{Sized, sized}
 use Rattle.pictures.specs.Checks.{Lent, lent, pictureChecks, gridChecks, entryChecks}
 use Rattle.pictures.proofs.Fitting.{fitting}
-use Rattle.pictures.proofs.Parts.{first-applies, first-passed}
 use Rattle.visits.specs.Checks.{visitReads}
 use Rattle.visits.proofs.VisitFits.{VisitFits, visit-fits, index, in-picture, in-largest}
 use Rattle.visits.proofs.checks.refuse_early.Statement.{statement}

@@ -1,7 +1,7 @@
 -- The definitions at the values that they have today: the mode of frames, a macroblock's own flag alone, a
 -- block's own count, a reference's own number. A request that widens one of them keeps these laws at the
 -- neutral value. Assumes nothing.
-use mathlib.Core.Path.{_≡_, refl, sym, ap}
+use mathlib.Core.Path.{_≡_, refl, ap}
 use mathlib.Core.Bool.{Bool, true, false, cond, not, _&&_, _||_}
 use Prim.Native.Nat.{ℕ, _+_, _*_}
 use lib.Dec.{eqb}
@@ -11,7 +11,7 @@ use Rattle.motion.specs.Grids.{Grids, coded, namedBy, blkAt}
 use Rattle.motion.specs.Motion.{interStrength}
 use Rattle.motion.specs.declared.blocks.Blk.{Blk}
 use Rattle.strengths.specs.Calls.{oneFlag}
-use Rattle.strengths.specs.Strength.{vertical, edge, qBlock, pBlock, border, skipped, frame, intraStrength, between, strengthBetween, strengthAt}
+use Rattle.strengths.specs.Strength.{vertical, edge, qBlock, pBlock, border, skipped, frame, between, strengthBetween, strengthAt}
 use Rattle.strengths.specs.declared.kinds.Mode.{Mode}
 
 -- ---- frames: 4 on an outer and 3 on an inner edge beside an intra block; 3 is the most in both directions

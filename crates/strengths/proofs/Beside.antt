@@ -1,14 +1,14 @@
 -- Where an edge is no border of the picture, there is a block across it. Assumes nothing.
-use mathlib.Core.Path.{_≡_, refl, subst}
+use mathlib.Core.Path.{_≡_}
 use mathlib.Core.Bool.{Bool, true, false, cond, _&&_, _||_}
 use mathlib.Core.Logic.{_⊎_, ⊎-elim}
-use Prim.Native.Nat.{ℕ, zero, suc, _+_, _-_, _*_, _/_, _%_, _≤_, _<_}
+use Prim.Native.Nat.{ℕ, zero, suc, _+_, _-_, _*_, _≤_, _<_}
 use native.Mathlib.Omega.{arith}
-use lib.Dec.{eqb, ltb}
+use lib.Dec.{eqb}
 use Rattle.laws.proofs.Grid.{row-pos}
 use Rattle.laws.proofs.Ints.{le-or-lt}
 use Rattle.strengths.specs.Blocks.{ownBlock}
-use Rattle.strengths.specs.Strength.{vertical, edge, segment, qRow, qColumn, qBlock, border, skipped}
+use Rattle.strengths.specs.Strength.{vertical, edge, segment, qBlock, border, skipped}
 use Rattle.laws.proofs.Bools.{or-false}
 
 not-both : (a b : ℕ) → (eqb a 0 && eqb b 0) ≡ false → 0 < a + b

@@ -2,21 +2,19 @@
 -- need be compared. Assumes nothing.
 use mathlib.Core.Path.{_≡_, refl, sym, ap, subst, _∙_}
 use mathlib.Core.Bool.{Bool, true, false, cond, not, _&&_, _||_}
-use mathlib.Core.List.{List}
-use Prim.Native.Nat.{ℕ, suc, _+_, _-_, _*_, _/_, _%_, _≤_, _<_}
+use Prim.Native.Nat.{ℕ, suc, _+_, _-_, _*_, _/_, _%_, _<_}
 use native.Mathlib.Omega.{arith}
 use borrow.Author.Tests.{eqb-false, not-true}
-use lib.Dec.{T, eqb, ltb}
+use lib.Dec.{T, eqb}
 use Rattle.laws.proofs.Bools.{and-true}
-use Rattle.laws.specs.Some.{every}
 use Rattle.laws.proofs.Some.{every-at}
 use Rattle.motion.specs.Grids.{Grids, coded, blkAt}
-use Rattle.motion.specs.Motion.{interStrength, sameMotion}
+use Rattle.motion.specs.Motion.{sameMotion}
 use Rattle.motion.proofs.Laws.{same-join, strength-same}
 use Rattle.motion.specs.declared.blocks.Blk.{Blk}
 use Rattle.strengths.specs.Blocks.{origin, ownBlock}
 use Rattle.strengths.specs.Checks.{disagree}
-use Rattle.strengths.specs.Strength.{vertical, edge, segment, qRow, qColumn, qBlock, pBlock, border, skipped, outerIntra, between, strengthAt}
+use Rattle.strengths.specs.Strength.{vertical, edge, segment, qBlock, pBlock, border, skipped, outerIntra, between, strengthAt}
 use Rattle.strengths.specs.Kinds.{everyOwn, uniform, flat, isKind}
 use Rattle.strengths.specs.ByKind.{firstInter, inside, acrossBy, strengthBy}
 use Rattle.strengths.specs.declared.kinds.Mode.{Mode}

@@ -1,7 +1,6 @@
 -- What a strength call knows once checks 1 to 5 have passed: its blocks lie in the grids. Assumes nothing.
-use mathlib.Core.Path.{_≡_, refl, ap}
-use mathlib.Core.Bool.{Bool, true, false, not, _&&_, _||_}
-use mathlib.Core.List.{List}
+use mathlib.Core.Path.{_≡_}
+use mathlib.Core.Bool.{true, _&&_, _||_}
 use mathlib.Core.Logic.{_⊎_, inl, inr, ⊎-elim}
 use Prim.Native.Nat.{ℕ, _+_, _*_, _≤_, _<_}
 use native.Mathlib.Omega.{arith}
@@ -16,8 +15,7 @@ use Rattle.motion.specs.Grids.{Grids}
 use Rattle.motion.specs.Inner.{Optional, Hold}
 use Rattle.strengths.specs.Blocks.{ownBlock}
 use Rattle.strengths.specs.Inner.{InGrids}
-use Rattle.strengths.specs.Checks.{badSize}
-use Rattle.strengths.specs.Calls.{lengthChecks}
+use Rattle.strengths.specs.Calls.{gridChecks}
 use Rattle.edges.specs.declared.Size.{Size}
 use Rattle.strengths.proofs.Sized.{Sized, sized}
 
@@ -32,18 +30,18 @@ pub record GridsFit (size : Size) (x y : ℕ) (g : Grids) (n : ℕ) : Type 0 whe
   pub vectors : length (g .mv0) ≡ 2 * (16 * (size .w * size .h))
   pub list1 : ((length (g .ref1) ≡ 0) × (length (g .mv1) ≡ 0)) ⊎ ((length (g .ref1) ≡ 16 * (size .w * size .h)) × (length (g .mv1) ≡ 2 * (16 * (size .w * size .h))))
 
-pub grids-fit : (size : Size) (x y : ℕ) (g : Grids) (n : ℕ) → refusal (lengthChecks size x y g n) ≡ 0 → GridsFit size x y g n
+pub grids-fit : (size : Size) (x y : ℕ) (g : Grids) (n : ℕ) → refusal (gridChecks size x y g n) ≡ 0 → GridsFit size x y g n
 grids-fit size x y g n e =
-    let o = or-false (leb (size .w) x) (leb (size .h) y) (passes 2 (lengthChecks size x y g n) tt e) in
-    let a = or-false _ _ (passes 5 (lengthChecks size x y g n) tt e) in
+    let o = or-false (leb (size .w) x) (leb (size .h) y) (passes 2 (gridChecks size x y g n) tt e) in
+    let a = or-false _ _ (passes 5 (gridChecks size x y g n) tt e) in
     let b = or-false _ _ (a .0) in
     let c = or-false _ _ (b .0) in
     let d = or-false _ _ (c .0) in
     record {
-      sides = sized size (passes 1 (lengthChecks size x y g n) tt e);
+      sides = sized size (passes 1 (gridChecks size x y g n) tt e);
       column = leb-false (size .w) x (o .0);
       line = leb-false (size .h) y (o .1);
-      strengths = equal _ _ (passes 4 (lengthChecks size x y g n) tt e);
+      strengths = equal _ _ (passes 4 (gridChecks size x y g n) tt e);
       inters = equal _ _ (d .0);
       counts = equal _ _ (d .1);
       refs = equal _ _ (c .1);
@@ -62,7 +60,7 @@ module _ (size : Size) (x y : ℕ) (g : Grids) (n : ℕ) (h : GridsFit size x y 
   last : ownBlock (size .w) x y 3 3 < 16 * (size .w * size .h)
   last = let c = h .column in let f = row-fits y (size .w) (size .h) (h .line) in omega arith
 
-  pub inside-of : (k : ℕ) → 16 * (size .w * size .h) ≤ k → InGrids (size .w) x y k
+  inside-of : (k : ℕ) → 16 * (size .w * size .h) ≤ k → InGrids (size .w) x y k
   inside-of k l = record { column = h .column; last = omega (arith, last) }
 
   small : InGrids (size .w) x y 589824
@@ -96,18 +94,20 @@ module _ (size : Size) (x y : ℕ) (g : Grids) (n : ℕ) (h : GridsFit size x y 
       no p q = omega arith
 
 -- ---- what the walks and the derivation ask
-pub record Ready (size : Size) (x y : ℕ) (g : Grids) (n : ℕ) : Type 0 where
+pub record Derivable (size : Size) (x y : ℕ) (g : Grids) (n : ℕ) : Type 0 where
   pub grids : Hold (g .inter) (g .ref0) (g .mv0) (g .ref1) (g .mv1) (ownBlock (size .w) x y 3 3 + 1)
   pub inter : InGrids (size .w) x y (length (g .inter))
+  pub refs : InGrids (size .w) x y (length (g .ref0))
   pub nnz : InGrids (size .w) x y (length (g .nnz))
   pub place : InGrids (size .w) x y 589824
   pub room : 32 * (y * size .w + x) + 32 ≤ n
 
-pub ready : (size : Size) (x y : ℕ) (g : Grids) (n : ℕ) → GridsFit size x y g n → Ready size x y g n
-ready size x y g n h =
+pub derivable : (size : Size) (x y : ℕ) (g : Grids) (n : ℕ) → GridsFit size x y g n → Derivable size x y g n
+derivable size x y g n h =
     record {
       grids = holds size x y g n h;
       inter = inside-of size x y g n h _ (omega (arith, h .inters));
+      refs = inside-of size x y g n h _ (omega (arith, h .refs));
       nnz = inside-of size x y g n h _ (omega (arith, h .counts));
       place = small size x y g n h;
       room = omega (arith, index-lt (size .w) (size .h) x y (h .column) (h .line), h .strengths);

@@ -1,6 +1,6 @@
 -- Skip is InterUniform, and InterUniform is Inter, as conditions on the grids. Assumes nothing.
 use mathlib.Core.Path.{_≡_}
-use mathlib.Core.Bool.{Bool, true, false, _&&_}
+use mathlib.Core.Bool.{true}
 use Prim.Native.Nat.{ℕ}
 use Rattle.laws.proofs.Bools.{and-true}
 use Rattle.laws.proofs.Some.{every-at, every-is}

@@ -3,12 +3,12 @@
 use mathlib.Core.Path.{_≡_, refl, sym, ap, _∙_}
 use mathlib.Core.Bool.{Bool, true, false, _&&_, false≢true}
 use mathlib.Core.List.{List, [], _∷_, _++_, replicate}
-use Prim.Native.Nat.{ℕ, _+_, _*_, _%_, _<_}
+use Prim.Native.Nat.{ℕ, _+_, _%_, _<_}
 use native.Mathlib.Omega.{arith}
 use borrow.Author.Tests.{ltb-true}
-use lib.Dec.{eqb, ltb}
-use lib.IntN.{ℤ, pos, negsuc}
-use lib.ListN.{length, getD}
+use lib.Dec.{eqb}
+use lib.IntN.{pos, negsuc}
+use lib.ListN.{getD}
 use Rattle.laws.specs.Refusal.{refusal}
 use Rattle.laws.specs.Some.{some}
 use Rattle.motion.specs.Far.{outside}
@@ -16,7 +16,7 @@ use Rattle.motion.specs.Grids.{Grids, grids, coded, blockRead, blkAt}
 use Rattle.motion.specs.Motion.{used, mismatched, differ, interStrength}
 use Rattle.strengths.specs.Blocks.{someRead}
 use Rattle.strengths.specs.Checks.{badInter, badRefs, disagree}
-use Rattle.strengths.specs.Calls.{lengthChecks, answerOf, oneFlag, DeriveOutcome, KindOutcome}
+use Rattle.strengths.specs.Calls.{gridChecks, answerOf, oneFlag, DeriveOutcome, KindOutcome}
 use Rattle.strengths.specs.Strength.{vertical, edge, qBlock, pBlock, frame, skipped, between, strengthAt, written}
 use Rattle.strengths.specs.ByKind.{strengthBy}
 use Rattle.strengths.specs.declared.kinds.MbKind.the-variants.{Intra, InterUniform}
@@ -62,10 +62,10 @@ kind-not-8x8 s e r =
 
 -- ---- motion inside a macroblock not compared, as if it were uniform: the first block moves, and byte 4,
 -- between it and the next, has 1
-abbrev moved : Grids
-moved = grids (replicate 16 1) (replicate 16 0) (replicate 16 (pos 0)) (pos 4 ∷ replicate 31 (pos 0)) [] []
+abbrev firstMoved : Grids
+firstMoved = grids (replicate 16 1) (replicate 16 0) (replicate 16 (pos 0)) (pos 4 ∷ replicate 31 (pos 0)) [] []
 
-pub not-as-uniform : strengthBy InterUniform frame moved 1 false 0 0 4 ≡ strengthAt frame moved 1 (oneFlag false) 0 0 4 → ⊥
+pub not-as-uniform : strengthBy InterUniform frame firstMoved 1 false 0 0 4 ≡ strengthAt frame firstMoved 1 (oneFlag false) 0 0 4 → ⊥
 unfolding strengthBy strengthAt between blockRead interStrength differ mismatched used outside
 not-as-uniform e = let k : _≡_ {A = ℕ} 0 1 = e in omega arith
 
@@ -88,7 +88,7 @@ mixedInter =
     [] []
 
 abbrev exchanged : ℕ
-exchanged = refusal (lengthChecks oneMb 0 0 mixedInter 32 ++ (7, badInter mixedInter 1 0 0) ∷ (11, disagree (mixedInter .inter) 1 0 0) ∷ (10, badRefs mixedInter 1 0 0) ∷ [])
+exchanged = refusal (gridChecks oneMb 0 0 mixedInter 32 ++ (7, badInter mixedInter 1 0 0) ∷ (11, disagree (mixedInter .inter) 1 0 0) ∷ (10, badRefs mixedInter 1 0 0) ∷ [])
 
 pub not-exchanged : exchanged ≡ answerOf oneMb 0 0 mixedInter false 32 → ⊥
 unfolding answerOf someRead some disagree

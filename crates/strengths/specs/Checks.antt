@@ -1,9 +1,9 @@
 -- The checks of a strength call, each as whether it applies: document 01, "Numbers a call returns".
-use Prim.Native.Nat.{ℕ, _+_, _-_, _*_}
+use Prim.Native.Nat.{ℕ, _-_, _*_}
 use mathlib.Core.Bool.{Bool, not, _&&_, _||_}
 use mathlib.Core.List.{List}
 use lib.Dec.{eqb, ltb, leb}
-use lib.IntN.{ℤ, pos, negsuc}
+use lib.IntN.{ℤ, negsuc}
 use lib.ListN.{length, getD}
 use lib.Signed.{ltZ}
 use Rattle.laws.specs.Some.{some}

@@ -3,7 +3,7 @@
 -- lies to the left of q or above it. A lone intra macroblock has 0 on edges 0 and 3 on the others; beside an
 -- intra one a macroblock has 4 on its left edge (proofs/Examples).
 use Prim.Native.Nat.{ℕ, _+_, _-_, _*_, _/_, _%_}
-use mathlib.Core.Bool.{Bool, cond, not, _&&_, _||_}
+use mathlib.Core.Bool.{Bool, cond, _&&_, _||_}
 use mathlib.Core.List.{List}
 use lib.Dec.{eqb, ltb}
 use lib.ListN.{set}

@@ -21,7 +21,8 @@ use crate::kinds::Request;
 use crate::kinds::kind_known;
 use crate::kinds::says_any;
 use crate::kinds::untrue_by;
-use crate::walks::own_over;
+use crate::walks::Sought;
+use crate::walks::own_have;
 use edges::Size;
 
 // Check 12: what is said is not true of the grids. Where nothing is said they are not walked.
@@ -48,7 +49,7 @@ fn untrue_known<'a>(
     }
     let at = 16 * (y * w) + 4 * x;
     let same = own_same(inter, ref0, mv0, ref1, mv1, at, 4 * w);
-    let coded = own_over(nnz, at, 4 * w, 0);
+    let coded = own_have(Sought::Above(0), nnz, ref0, at, 4 * w);
     untrue_by(known, inter[at] == 1, same, coded)
 }
 

@@ -2,20 +2,18 @@
 ghost use mathlib.Core.Path.{_≡_};
 ghost use mathlib.Core.List.{[], _∷_};
 ghost use Prim.Native.Nat.{_*_, _<_, _≤_};
-ghost use lib.Dec.{ltb};
-ghost use lib.ListN.{length, getD};
+ghost use lib.ListN.{length};
 ghost use Rattle.laws.specs.Refusal.{refusal};
 ghost use Rattle.motion.specs.Grids.{grids};
 ghost use Rattle.strengths.specs.Blocks.{someRead};
-ghost use Rattle.strengths.specs.Inner.{InGrids};
+ghost use Rattle.strengths.specs.Inner.{InGrids, soughtAt, placesOf};
 ghost use Rattle.strengths.specs.Checks.{badSize, outsideOf, badStrengths, badLengths, belowNone, disagree};
 ghost use Rattle.strengths.specs.Calls.{deriveChecks};
-use crate::walks::beside_below;
+use crate::walks::Sought;
 use crate::walks::beside_differ;
-use crate::walks::beside_over;
-use crate::walks::own_below;
+use crate::walks::beside_have;
 use crate::walks::own_differ;
-use crate::walks::own_over;
+use crate::walks::own_have;
 use edges::Size;
 
 pub fn bad_size(size: Size) -> bool
@@ -81,37 +79,27 @@ pub fn refuse_lengths(
     0
 }
 
-// Check 7: an inter byte that is read is above 1.
-pub fn bad_inter(inter: &[u8], w: usize, x: usize, y: usize) -> bool
-    requires { ⌜ InGrids w x y (length (now inter)) ⌝ }
-    ensures { λ r. ⌜ r ≡ someRead w x y (λ i. ltb 1 (getD (now (inter .entry)) i 0)) ⌝ }
+// What is sought is at a block that is read.
+pub fn some_read(sought: Sought, bytes: &[u8], refs: &[i8], w: usize, x: usize, y: usize) -> bool
+    requires { ⌜ InGrids w x y (placesOf sought (now bytes) (now refs)) ⌝ }
+    requires { ⌜ InGrids w x y 589824 ⌝ }
+    ensures { λ r. ⌜ r ≡ someRead w x y (soughtAt sought (now (bytes .entry)) (now (refs .entry))) ⌝ }
 {
     let at = 16 * (y * w) + 4 * x;
-    let own = own_over(inter, at, 4 * w, 1);
-    let left = beside_over(0 < x, inter, at, 1, 4 * w, 1);
-    let above = beside_over(0 < y, inter, at, 4 * w, 1, 1);
+    let own = own_have(sought, bytes, refs, at, 4 * w);
+    let left = beside_have(0 < x, sought, bytes, refs, at, 1, 4 * w);
+    let above = beside_have(0 < y, sought, bytes, refs, at, 4 * w, 1);
     own | left | above
 }
 
-// Check 10 in a list that is lent.
-fn bad_refs(refs: &[i8], w: usize, x: usize, y: usize) -> bool
-    requires { ⌜ InGrids w x y (length (now refs)) ⌝ }
-    ensures { λ r. ⌜ r ≡ someRead w x y (belowNone (now (refs .entry))) ⌝ }
-{
-    let at = 16 * (y * w) + 4 * x;
-    let own = own_below(refs, at, 4 * w);
-    let left = beside_below(0 < x, refs, at, 1, 4 * w);
-    let above = beside_below(0 < y, refs, at, 4 * w, 1);
-    own | left | above
-}
-
-// Check 10 in a list that may be empty.
-pub fn bad_list(refs: &[i8], w: usize, x: usize, y: usize) -> bool
+// Check 10 in a list that may be empty. No byte of `inter` is looked at.
+fn bad_list(inter: &[u8], refs: &[i8], w: usize, x: usize, y: usize) -> bool
     requires { ⌜ (0 < length (now refs) → InGrids w x y (length (now refs))) ⌝ }
+    requires { ⌜ InGrids w x y 589824 ⌝ }
     ensures { λ r. ⌜ r ≡ someRead w x y (belowNone (now (refs .entry))) ⌝ }
 {
     if 0 < refs.len() {
-        return bad_refs(refs, w, x, y);
+        return some_read(Sought::BelowNone, inter, refs, w, x, y);
     }
     false
 }
@@ -159,11 +147,11 @@ pub fn refuse_derive<'a>(
         return n;
     }
     let w = size.w;
-    if bad_inter(inter, w, x, y) {
+    if some_read(Sought::Above(1), inter, ref0, w, x, y) {
         return 7;
     }
-    let bad0 = bad_list(ref0, w, x, y);
-    let bad1 = bad_list(ref1, w, x, y);
+    let bad0 = bad_list(inter, ref0, w, x, y);
+    let bad1 = bad_list(inter, ref1, w, x, y);
     if bad0 | bad1 {
         return 10;
     }

@@ -3,56 +3,50 @@
 ghost use mathlib.Core.Path.{_≡_};
 ghost use mathlib.Core.Bool.{true, not, _&&_};
 ghost use Prim.Native.Nat.{_+_, _-_, _*_, _<_, _≤_};
-ghost use lib.Dec.{ltb, eqb};
-ghost use lib.IntN.{pos, negsuc};
+ghost use lib.Dec.{eqb};
 ghost use lib.ListN.{length, getD};
-ghost use lib.Signed.{ltZ};
 ghost use Rattle.laws.specs.Some.{some};
 ghost use Rattle.strengths.specs.Blocks.{besideBlock};
+ghost use Rattle.strengths.specs.Inner.{soughtAt, placesOf};
 
-// Some of four bytes is above `top`.
-pub fn four_over(s: &[u8], at: usize, step: usize, top: u8) -> bool
-    requires { ⌜ at + 3 * step < length (now s) ⌝ }
-    ensures { λ r. ⌜ r ≡ some 4 (λ k. ltb top (getD (now (s .entry)) (at + k * step) 0)) ⌝ }
+// What a walk looks for: a byte above a bound, or a reference number below -1.
+pub enum Sought {
+    Above(u8),
+    BelowNone,
+}
+
+fn sought_at(sought: Sought, bytes: &[u8], refs: &[i8], i: usize) -> bool
+    requires { ⌜ i < placesOf sought (now bytes) (now refs) ⌝ }
+    ensures { λ r. ⌜ r ≡ soughtAt sought (now (bytes .entry)) (now (refs .entry)) i ⌝ }
+{
+    match sought {
+        Sought::Above(top) => top < bytes[i],
+        Sought::BelowNone => refs[i] < -1,
+    }
+}
+
+// It is at one of four places.
+pub fn four_have(sought: Sought, bytes: &[u8], refs: &[i8], at: usize, step: usize) -> bool
+    requires { ⌜ at + 3 * step < placesOf sought (now bytes) (now refs) ⌝ }
+    requires { ⌜ at + 3 * step < 1000000 ⌝ }
+    ensures { λ r. ⌜ r ≡ some 4 (λ k. soughtAt sought (now (bytes .entry)) (now (refs .entry)) (at + k * step)) ⌝ }
 {
     let mut found = false;
     for k in 0..4usize {
-        found = found | (top < s[at + k * step]);
+        found = found | sought_at(sought, bytes, refs, at + k * step);
     }
     found
 }
 
-// Some of four rows of four.
-pub fn own_over(s: &[u8], at: usize, stride: usize, top: u8) -> bool
-    requires { ⌜ at + 3 * stride + 3 < length (now s) ⌝ }
-    ensures { λ r. ⌜ r ≡ some 4 (λ j. some 4 (λ k. ltb top (getD (now (s .entry)) (at + j * stride + k) 0))) ⌝ }
+// .. of four rows of four.
+pub fn own_have(sought: Sought, bytes: &[u8], refs: &[i8], at: usize, stride: usize) -> bool
+    requires { ⌜ at + 3 * stride + 3 < placesOf sought (now bytes) (now refs) ⌝ }
+    requires { ⌜ at + 3 * stride + 3 < 1000000 ⌝ }
+    ensures { λ r. ⌜ r ≡ some 4 (λ j. some 4 (λ k. soughtAt sought (now (bytes .entry)) (now (refs .entry)) (at + j * stride + k))) ⌝ }
 {
     let mut found = false;
     for j in 0..4usize {
-        found = found | four_over(s, at + j * stride, 1, top);
-    }
-    found
-}
-
-// Some of four reference numbers is below -1.
-pub fn four_below(s: &[i8], at: usize, step: usize) -> bool
-    requires { ⌜ at + 3 * step < length (now s) ⌝ }
-    ensures { λ r. ⌜ r ≡ some 4 (λ k. ltZ (getD (now (s .entry)) (at + k * step) (negsuc 0)) (negsuc 0)) ⌝ }
-{
-    let mut found = false;
-    for k in 0..4usize {
-        found = found | (s[at + k * step] < -1);
-    }
-    found
-}
-
-pub fn own_below(s: &[i8], at: usize, stride: usize) -> bool
-    requires { ⌜ at + 3 * stride + 3 < length (now s) ⌝ }
-    ensures { λ r. ⌜ r ≡ some 4 (λ j. some 4 (λ k. ltZ (getD (now (s .entry)) (at + j * stride + k) (negsuc 0)) (negsuc 0))) ⌝ }
-{
-    let mut found = false;
-    for j in 0..4usize {
-        found = found | four_below(s, at + j * stride, 1);
+        found = found | four_have(sought, bytes, refs, at + j * stride, 1);
     }
     found
 }
@@ -89,22 +83,20 @@ pub fn own_differ(s: &[u8], at: usize, stride: usize) -> bool
 }
 
 // The same beside a macroblock, where there is a neighbour: four places, the first `back` before `at`.
-pub fn beside_over(go: bool, s: &[u8], at: usize, back: usize, step: usize, top: u8) -> bool
-    requires { ⌜ (go ≡ true → (back ≤ at) × (at - back + 3 * step < length (now s))) ⌝ }
-    ensures { λ r. ⌜ r ≡ (go && some 4 (λ k. ltb top (getD (now (s .entry)) (besideBlock at back step k) 0))) ⌝ }
+pub fn beside_have(
+    go: bool,
+    sought: Sought,
+    bytes: &[u8],
+    refs: &[i8],
+    at: usize,
+    back: usize,
+    step: usize,
+) -> bool
+    requires { ⌜ (go ≡ true → (back ≤ at) × (at - back + 3 * step < placesOf sought (now bytes) (now refs)) × (at - back + 3 * step < 1000000)) ⌝ }
+    ensures { λ r. ⌜ r ≡ (go && some 4 (λ k. soughtAt sought (now (bytes .entry)) (now (refs .entry)) (besideBlock at back step k))) ⌝ }
 {
     if go {
-        return four_over(s, at - back, step, top);
-    }
-    false
-}
-
-pub fn beside_below(go: bool, s: &[i8], at: usize, back: usize, step: usize) -> bool
-    requires { ⌜ (go ≡ true → (back ≤ at) × (at - back + 3 * step < length (now s))) ⌝ }
-    ensures { λ r. ⌜ r ≡ (go && some 4 (λ k. ltZ (getD (now (s .entry)) (besideBlock at back step k) (negsuc 0)) (negsuc 0))) ⌝ }
-{
-    if go {
-        return four_below(s, at - back, step);
+        return four_have(sought, bytes, refs, at - back, step);
     }
     false
 }

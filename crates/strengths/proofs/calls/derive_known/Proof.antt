@@ -9,8 +9,8 @@ use Rattle.strengths.specs.Calls.{deriveChecks}
 use Rattle.strengths.specs.Kinds.{isKind}
 use Rattle.strengths.specs.ByKind.{kindKnown}
 use Rattle.strengths.specs.declared.kinds.MbKind.{MbKind}
-use Rattle.strengths.proofs.DeriveOutcomes.{passed-ready, agrees, refused, untrue-12, done}
-use Rattle.strengths.proofs.GridsFit.{Ready}
+use Rattle.strengths.proofs.DeriveOutcomes.{passed-derivable, agrees, refused, untrue-12, done}
+use Rattle.strengths.proofs.GridsFit.{Derivable}
 use Rattle.strengths.proofs.InterAgrees.{known-kind}
 use Rattle.strengths.proofs.calls.derive_known.Statement.{statement}
 use Rattle.strengths.proofs.calls.derive_known.Tie as tie
@@ -25,8 +25,8 @@ start c = c .before .before .before .before .before
 zero : (c : tie.Else1) → let s = start c in let a = s .args in refusal (deriveChecks (a .size) (a .x) (a .y) (given s) (length (a .strengths .now))) ≡ 0
 zero c = sym (c .before .refuse-derive .ensures) ∙ c .if1 .left
 
-ok : (c : tie.Else1) → let s = start c in let a = s .args in Ready (a .size) (a .x) (a .y) (given s) (length (a .strengths .now))
-ok c = let s = start c in let a = s .args in passed-ready (a .size) (a .x) (a .y) (given s) (length (a .strengths .now)) (zero c)
+ok : (c : tie.Else1) → let s = start c in let a = s .args in Derivable (a .size) (a .x) (a .y) (given s) (length (a .strengths .now))
+ok c = let s = start c in let a = s .args in passed-derivable (a .size) (a .x) (a .y) (given s) (length (a .strengths .now)) (zero c)
 
 returns : tie.Need-returns
 returns c =

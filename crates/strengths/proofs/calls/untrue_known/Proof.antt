@@ -1,6 +1,6 @@
 -- `untrue_known`: what the walks gather decides what is said. Assumes nothing.
 use borrow.Author.Needs.{needs}
-use mathlib.Core.Path.{_≡_, sym, _∙_}
+use mathlib.Core.Path.{sym, _∙_}
 use native.Mathlib.Omega.{arith}
 use borrow.Author.Tests.{not-true}
 use Rattle.motion.specs.Grids.{Grids, grids}
@@ -25,7 +25,7 @@ returns-2 c =
     let s = o .before .before .before .before .before .before in
     let a = s .args in
     c .untrue-by .ensures
-    ∙ (λ i. untrueBy (a .known) (firstInter (a .inter .now) (a .w) (a .x) (a .y)) (o .before .own-same .ensures i) (o .own-over .ensures i))
+    ∙ (λ i. untrueBy (a .known) (firstInter (a .inter .now) (a .w) (a .x) (a .y)) (o .before .own-same .ensures i) (o .own-have .ensures i))
     ∙ known-by (given s) (a .w) (a .x) (a .y) (s .pre .1 .1 .1) (a .known)
 
 pub untrue-known-spec : {M : Type 1} → statement M

@@ -34,6 +34,6 @@ pub bad-list-spec : {M : Type 1} → statement M
 bad-list-spec =
     tie.close
     (tie.spec
-    (λ c κs. c .before .pre (c .if1 .taken))
-    (λ c. c .bad-refs .ensures)
-    (λ c. let a = c .before .args in sym (idle (a .w) (a .x) (a .y) _ (empty (a .refs .now) (c .if1 .left)))))
+    (λ c κs. (c .before .before .pre .0 (c .if1 .taken), c .before .before .pre .1))
+    (λ c. c .some-read .ensures)
+    (λ c. let a = c .before .before .args in sym (idle (a .w) (a .x) (a .y) _ (empty (a .refs .now) (c .if1 .left)))))

@@ -1,17 +1,15 @@
 -- `refuse_derive`: each return is the first check of the list that applies. Assumes nothing.
 use borrow.Author.Needs.{needs}
-use borrow.Author.Tests.{ne-eqb, eq-eqb}
+use borrow.Author.Tests.{ne-eqb}
 use mathlib.Core.Path.{_≡_, sym, ap, _∙_}
-use mathlib.Core.Bool.{Bool, false, cond, _||_}
+use mathlib.Core.Bool.{Bool, cond, _||_}
 use Prim.Native.Nat.{ℕ}
-use native.Mathlib.Omega.{arith}
 use lib.Dec.{eqb}
 use Rattle.laws.specs.Refusal.{refusal}
 use Rattle.motion.specs.Grids.{Grids, grids}
-use Rattle.strengths.specs.Calls.{lengthChecks, blockChecks, deriveChecks}
-use Rattle.edges.specs.declared.Size.{Size}
+use Rattle.strengths.specs.Calls.{gridChecks, blockChecks, deriveChecks}
 use Rattle.strengths.proofs.DeriveOutcomes.{checks-cut}
-use Rattle.strengths.proofs.GridsFit.{GridsFit, grids-fit, inside-of, list1-inside}
+use Rattle.strengths.proofs.GridsFit.{GridsFit, grids-fit, list1-inside, Derivable, derivable}
 use Rattle.strengths.proofs.checks.refuse_derive.Statement.{statement}
 use Rattle.strengths.proofs.checks.refuse_derive.Tie as tie
 
@@ -22,11 +20,14 @@ given c = let a = c .args in grids (a .inter .now) (a .nnz .now) (a .ref0 .now) 
 abbrev start : tie.Else1 → tie.Start
 start c = c .before .before .before .before
 
-zero : (c : tie.Else1) → let s = start c in refusal (lengthChecks (s .args .size) (s .args .x) (s .args .y) (given s) (s .args .strengths)) ≡ 0
+zero : (c : tie.Else1) → let s = start c in refusal (gridChecks (s .args .size) (s .args .x) (s .args .y) (given s) (s .args .strengths)) ≡ 0
 zero c = sym (c .before .refuse-lengths .ensures) ∙ c .if1 .left
 
 ok : (c : tie.Else1) → let s = start c in GridsFit (s .args .size) (s .args .x) (s .args .y) (given s) (s .args .strengths)
 ok c = let s = start c in grids-fit (s .args .size) (s .args .x) (s .args .y) (given s) (s .args .strengths) (zero c)
+
+ready : (c : tie.Else1) → let s = start c in Derivable (s .args .size) (s .args .x) (s .args .y) (given s) (s .args .strengths)
+ready c = let s = start c in derivable (s .args .size) (s .args .x) (s .args .y) (given s) (s .args .strengths) (ok c)
 
 -- then the others decide
 rest : (c : tie.Else1) {n : ℕ} → let s = start c in n ≡ refusal (blockChecks (s .args .size) (s .args .x) (s .args .y) (given s))
@@ -39,16 +40,16 @@ returns : tie.Need-returns
 returns c =
     let s = c .before .before .before .before in
     let e = c .before .refuse-lengths .ensures in
-    e ∙ sym (checks-cut (s .args .size) (s .args .x) (s .args .y) (given s) (s .args .strengths) ∙ ap (λ (b : Bool). cond b (refusal (blockChecks (s .args .size) (s .args .x) (s .args .y) (given s))) (refusal (lengthChecks (s .args .size) (s .args .x) (s .args .y) (given s) (s .args .strengths)))) (ne-eqb _ 0 (λ k. c .if1 .taken (e ∙ k))))
+    e ∙ sym (checks-cut (s .args .size) (s .args .x) (s .args .y) (given s) (s .args .strengths) ∙ ap (λ (b : Bool). cond b (refusal (blockChecks (s .args .size) (s .args .x) (s .args .y) (given s))) (refusal (gridChecks (s .args .size) (s .args .x) (s .args .y) (given s) (s .args .strengths)))) (ne-eqb _ 0 (λ k. c .if1 .taken (e ∙ k))))
 
 returns-2 : tie.Need-returns-2
-returns-2 c = rest (c .before .before) (simp (sym (c .before .bad-inter .ensures) ∙ c .if2 .taken))
+returns-2 c = rest (c .before .before) (simp (sym (c .before .some-read .ensures) ∙ c .if2 .taken))
 
 returns-3 : tie.Need-returns-3
 returns-3 c =
     let l = c .before .before in
     let e = l .before in
-    rest (e .before .before) (simp (sym (e .before .bad-inter .ensures) ∙ e .if2 .left, sym (λ i. l .bad-list .ensures i || c .before .bad-list2 .ensures i) ∙ c .if3 .taken))
+    rest (e .before .before) (simp (sym (e .before .some-read .ensures) ∙ e .if2 .left, sym (λ i. l .bad-list .ensures i || c .before .bad-list2 .ensures i) ∙ c .if3 .taken))
 
 returns-4 : tie.Need-returns-4
 returns-4 c =
@@ -57,7 +58,7 @@ returns-4 c =
     let e = l .before in
     rest (e .before .before)
     (simp
-    (sym (e .before .bad-inter .ensures) ∙ e .if2 .left, sym (λ i. l .bad-list .ensures i || t .before .bad-list2 .ensures i) ∙ t .if3 .left, sym (c .before .disagreeing .ensures) ∙ c .if4 .taken))
+    (sym (e .before .some-read .ensures) ∙ e .if2 .left, sym (λ i. l .bad-list .ensures i || t .before .bad-list2 .ensures i) ∙ t .if3 .left, sym (c .before .disagreeing .ensures) ∙ c .if4 .taken))
 
 returns-5 : tie.Need-returns-5
 returns-5 c =
@@ -66,28 +67,22 @@ returns-5 c =
     let e = l .before in
     rest (e .before .before)
     (simp
-    (sym (e .before .bad-inter .ensures) ∙ e .if2 .left, sym (λ i. l .bad-list .ensures i || t .before .bad-list2 .ensures i) ∙ t .if3 .left, sym (c .before .disagreeing .ensures) ∙ c .if4 .left))
+    (sym (e .before .some-read .ensures) ∙ e .if2 .left, sym (λ i. l .bad-list .ensures i || t .before .bad-list2 .ensures i) ∙ t .if3 .left, sym (c .before .disagreeing .ensures) ∙ c .if4 .left))
 
-inter : tie.Need-bad-inter-requires
-inter c κs = let s = start c in inside-of (s .args .size) (s .args .x) (s .args .y) (given s) (s .args .strengths) (ok c) _ (omega (arith, ok c .inters))
+inter : tie.Need-some-read-requires
+inter c κs = (ready c .inter, ready c .place)
 
 list0 : tie.Need-bad-list-requires
-list0 c κs k =
-    let e = c .before .before in
-    let s = start e in
-    inside-of (s .args .size) (s .args .x) (s .args .y) (given s) (s .args .strengths) (ok e) _ (omega (arith, ok e .refs))
+list0 c κs = let e = c .before .before in (λ k. ready e .refs, ready e .place)
 
 list1 : tie.Need-bad-list-requires-2
-list1 c κs k =
+list1 c κs =
     let e = c .before .before .before in
     let s = start e in
-    list1-inside (s .args .size) (s .args .x) (s .args .y) (given s) (s .args .strengths) (ok e) k
+    (list1-inside (s .args .size) (s .args .x) (s .args .y) (given s) (s .args .strengths) (ok e), ready e .place)
 
 agree : tie.Need-disagreeing-requires
-agree c κs =
-    let e = c .before .before .before .before .before in
-    let s = start e in
-    inside-of (s .args .size) (s .args .x) (s .args .y) (given s) (s .args .strengths) (ok e) _ (omega (arith, ok e .inters))
+agree c κs = ready (c .before .before .before .before .before) .inter
 
 pub refuse-derive-spec : {M : Type 1} → statement M
 refuse-derive-spec =

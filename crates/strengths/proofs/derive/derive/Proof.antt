@@ -1,12 +1,12 @@
 -- `derive`: one byte a turn. Assumes nothing.
 use borrow.Author.Needs.{needs}
-use mathlib.Core.Path.{_≡_, refl}
+use mathlib.Core.Path.{_≡_}
 use mathlib.Core.List.{List}
 use Prim.Native.Nat.{ℕ, _+_, _*_, _-_, _≤_}
 use native.Mathlib.Omega.{arith}
 use lib.ListN.{length, set, length-set}
 use Rattle.laws.specs.Loop.{upTo}
-use Rattle.laws.proofs.Loop.{upTo-none, upTo-more, upTo-end, loops}
+use Rattle.laws.proofs.Loop.{upTo-more, loops}
 use Rattle.motion.specs.Grids.{grids}
 use Rattle.strengths.specs.ByKind.{strengthBy}
 use Rattle.strengths.specs.Strength.{written}

@@ -1,13 +1,12 @@
 -- `strength_at`: the blocks beside the edge are those of the definition. Assumes nothing.
 use borrow.Author.Needs.{needs}
-use mathlib.Core.Path.{_≡_, sym, ap, _∙_}
-use mathlib.Core.Bool.{false, cond, _||_}
-use Prim.Native.Nat.{ℕ, _+_, _-_, _*_, _≤_}
+use mathlib.Core.Path.{_≡_, sym, _∙_}
+use mathlib.Core.Bool.{false, _||_}
+use Prim.Native.Nat.{_+_, _-_, _*_, _≤_}
 use native.Mathlib.Omega.{arith}
-use lib.Dec.{eqb, ltb}
 use Rattle.motion.proofs.Laws.{hold-less}
-use Rattle.strengths.specs.Strength.{border, skipped, qBlock}
-use Rattle.strengths.specs.ByKind.{acrossBy, strengthBy}
+use Rattle.strengths.specs.Strength.{border, skipped}
+use Rattle.strengths.specs.ByKind.{strengthBy}
 use Rattle.strengths.proofs.Beside.{across-fits}
 use Rattle.strengths.proofs.derive.strength_at.Statement.{statement}
 use Rattle.strengths.proofs.derive.strength_at.Tie as tie

@@ -3,10 +3,8 @@ use mathlib.Core.Path.{_≡_}
 use mathlib.Core.Bool.{not}
 use Prim.Native.Nat.{_+_, _*_, _-_, _≤_}
 use native.Mathlib.Omega.{arith}
-use lib.Dec.{ltb, eqb}
-use lib.IntN.{negsuc}
+use lib.Dec.{eqb}
 use lib.ListN.{getD}
-use lib.Signed.{ltZ}
 use Rattle.laws.specs.Some.{some}
 use Rattle.laws.proofs.Loop.{mul-below}
 use Rattle.laws.proofs.Some.{tests}

@@ -1,21 +1,21 @@
--- `bad_inter`: the three walks are those of the definition. Assumes nothing.
+-- `some_read`: the three walks are those of the definition. Assumes nothing.
 use borrow.Author.Needs.{needs}
 use borrow.Author.Tests.{ltb-true}
 use native.Mathlib.Omega.{arith}
 use Rattle.laws.proofs.Grid.{row-pos}
 use Rattle.strengths.specs.Blocks.{someRead}
-use Rattle.strengths.proofs.checks.bad_inter.Statement.{statement}
-use Rattle.strengths.proofs.checks.bad_inter.Tie as tie
+use Rattle.strengths.proofs.checks.some_read.Statement.{statement}
+use Rattle.strengths.proofs.checks.some_read.Tie as tie
 
-above : tie.Need-beside-over-requires-2
+above : tie.Need-beside-have-requires-2
 above c κs h = let a = c .before .before .before .args in omega (arith, row-pos (a .y) (a .w) (ltb-true 0 (a .y) h))
 
 returns : tie.Need-returns
 unfolding someRead
-returns c = rw (c .before .before .own-over .ensures, c .before .beside-over .ensures, c .beside-over2 .ensures)
+returns c = rw (c .before .before .own-have .ensures, c .before .beside-have .ensures, c .beside-have2 .ensures)
 
-pub bad-inter-spec : {M : Type 1} → statement M
-bad-inter-spec =
+pub some-read-spec : {M : Type 1} → statement M
+some-read-spec =
     tie.close
     (tie.spec
     (λ c. search needs)

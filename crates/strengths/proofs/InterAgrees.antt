@@ -1,5 +1,5 @@
--- Where check 11 does not apply, the first of the own blocks speaks for all 16 on inter: so what a caller says
--- of them is judged by it, and the kind to go by is true. Assumes nothing.
+-- Where check 11 does not apply, the first of the own blocks speaks for all 16 on inter: so what a caller
+-- says of them is judged by it, and the kind to go by is true. Assumes nothing.
 use mathlib.Core.Path.{_≡_, refl, sym, ap, _∙_}
 use mathlib.Core.Bool.{Bool, true, false, not, _&&_, _||_, true≢false}
 use Prim.Native.Nat.{ℕ, zero, suc, _-_, _*_, _<_}

@@ -1,7 +1,7 @@
 -- The 32 strengths of a macroblock, straight from the grids: ITU-T H.264, clause 8.7.2.1, for progressive
--- frames (the mode `frame`). Byte k is segment k % 4 of edge k / 4 % 4, vertical edges first. Between blocks p and q an edge
--- lies to the left of q or above it. A lone intra macroblock has 0 on edges 0 and 3 on the others; beside an
--- intra one a macroblock has 4 on its left edge (proofs/Examples).
+-- frames (the mode `frame`). Byte k is segment k % 4 of edge k / 4 % 4, vertical edges first. Between blocks p
+-- and q an edge lies to the left of q or above it. A lone intra macroblock has 0 on edges 0 and 3 on the
+-- others; beside an intra one a macroblock has 4 on its left edge (proofs/Examples).
 use Prim.Native.Nat.{ℕ, _+_, _-_, _*_, _/_, _%_}
 use mathlib.Core.Bool.{Bool, cond, _&&_, _||_}
 use mathlib.Core.List.{List}
@@ -41,7 +41,7 @@ pBlock w x y k = qBlock w x y k - cond (vertical k) 1 (4 * w)
 abbrev pub border : ℕ → ℕ → ℕ → Bool
 border x y k = eqb (edge k) 0 && eqb (cond (vertical k) x y) 0
 
--- ---- frames: near vectors differ vertically by 3 at most, and an intra upper edge has 4. Fields have 1 and 3
+-- ---- frames: near vectors differ vertically by 3 at most, and an intra upper edge has 4 (fields: 1 and 3)
 abbrev pub frame : Mode
 frame = record { limit = 3; upper = 4 }
 

@@ -16,17 +16,17 @@ use Rattle.laws.proofs.Loop.{upTo-same, upTo-idle}
 use Rattle.lines.specs.Depth.{Depth}
 use Rattle.lines.specs.Planes.{onLine, onShort, lumaAt, chromaAt}
 use Rattle.batches.specs.Lines.{segmentStrength, lumaWith, chromaWith, longLines, shortLines, Straight, upper, lower, longAt, uOrV, uvStrength, shortAt}
-use Rattle.batches.specs.Lanes.{allZero, stillEdge}
+use Rattle.batches.specs.Lanes.{noStrength, stillEdge}
 use Rattle.batches.specs.Moves.{taken, takenBoth, stored}
 use Rattle.batches.specs.declared.lanes.Four.{Four}
 use Rattle.batches.specs.declared.lanes.Thresholds.{Thresholds}
-use Rattle.batches.proofs.Segments.{all-zero-at}
+use Rattle.batches.proofs.Segments.{no-strength-at}
 use Rattle.batches.proofs.Shapes.{lumaShape, chromaShape, stays}
 use Rattle.batches.proofs.Loads.{long-is, pair-u, pair-v}
 
 -- ---- where no line can change, none does
 why-still : (s : Four) (l : Thresholds) → stillEdge s l ≡ true → (n k : ℕ) → (segmentStrength n s k ≡ 0) ⊎ (l .alpha ≡ 0)
-why-still s l e n k = ⊎-elim (λ z. inl (all-zero-at s z n k)) (λ z. inr (eqb-true (l .alpha) 0 z)) (or-true (allZero s) (eqb (l .alpha) 0) e)
+why-still s l e n k = ⊎-elim (λ z. inl (no-strength-at s z n k)) (λ z. inr (eqb-true (l .alpha) 0 z)) (or-true (noStrength s) (eqb (l .alpha) 0) e)
 
 module _ (d : Depth) (s : Four) (l : Thresholds) (at along step : ℕ) (xs : Plane) where
   pub long-still : stillEdge s l ≡ true → longLines d s l at along step xs ≡ xs

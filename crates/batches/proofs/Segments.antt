@@ -11,7 +11,7 @@ use lib.ListN.{getD}
 use Rattle.laws.specs.Local.{All}
 use Rattle.laws.proofs.Bools.{and-true, or-false}
 use Rattle.batches.specs.Lines.{segmentStrength, uOrV, uvStrength}
-use Rattle.batches.specs.Lanes.{atSlot, fourEach, twoEach, eightEach, any, allZero}
+use Rattle.batches.specs.Lanes.{atSlot, fourEach, twoEach, eightEach, any, noStrength}
 use Rattle.batches.specs.declared.lanes.Four.{Four}
 use Rattle.batches.specs.declared.lanes.Thresholds.{Thresholds}
 use Rattle.batches.proofs.MovedPlaces.{last-or-before}
@@ -56,8 +56,8 @@ no-one on s z e n k =
     anywhere (λ b. on b ≡ false) (s .a ∷ s .b ∷ s .c ∷ s .d ∷ []) (k / n) z (w .0, (w .1, (y .1, (x .1, tt))))
 
 -- strengths that are all 0
-pub all-zero-at : (s : Four) → allZero s ≡ true → (n k : ℕ) → segmentStrength n s k ≡ 0
-all-zero-at s e n k =
+pub no-strength-at : (s : Four) → noStrength s ≡ true → (n k : ℕ) → segmentStrength n s k ≡ 0
+no-strength-at s e n k =
     let x = and-true _ (eqb (s .d) 0) e in
     let y = and-true _ (eqb (s .c) 0) (x .0) in
     let w = and-true (eqb (s .a) 0) (eqb (s .b) 0) (y .0) in

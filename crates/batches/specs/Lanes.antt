@@ -52,8 +52,8 @@ abbrev pub any : (ℕ → Bool) → Four → Bool
 any on s = ((on (s .a) || on (s .b)) || on (s .c)) || on (s .d)
 
 -- no line can change: every strength is 0, or alpha is
-abbrev pub allZero : Four → Bool
-allZero s = ((eqb (s .a) 0 && eqb (s .b) 0) && eqb (s .c) 0) && eqb (s .d) 0
+abbrev pub noStrength : Four → Bool
+noStrength s = ((eqb (s .a) 0 && eqb (s .b) 0) && eqb (s .c) 0) && eqb (s .d) 0
 
 abbrev pub stillEdge : Four → Thresholds → Bool
-stillEdge s l = allZero s || eqb (l .alpha) 0
+stillEdge s l = noStrength s || eqb (l .alpha) 0

@@ -2,7 +2,7 @@
 // five, not by branches, which mixed strengths would mislead.
 ghost use mathlib.Core.Path.{_≡_};
 ghost use Prim.Native.Nat.{_<_};
-ghost use Rattle.batches.specs.Lanes.{slotOf, weakRow, tcRow, strongRow, spreadOf, fourEach, twoEach, eightEach, isWeak, isStrong, any, allZero, stillEdge};
+ghost use Rattle.batches.specs.Lanes.{slotOf, weakRow, tcRow, strongRow, spreadOf, fourEach, twoEach, eightEach, isWeak, isStrong, any, noStrength, stillEdge};
 
 // The strengths of an edge's four segments.
 pub struct Four {
@@ -102,8 +102,8 @@ pub fn any_strong(s: Four) -> bool
     (3 < s.a) | (3 < s.b) | (3 < s.c) | (3 < s.d)
 }
 
-fn all_zero(s: Four) -> bool
-    ensures { λ r. ⌜ r ≡ allZero s ⌝ }
+fn no_strength(s: Four) -> bool
+    ensures { λ r. ⌜ r ≡ noStrength s ⌝ }
 {
     (s.a == 0) & (s.b == 0) & (s.c == 0) & (s.d == 0)
 }
@@ -112,5 +112,5 @@ fn all_zero(s: Four) -> bool
 pub fn is_still(s: Four, l: Thresholds) -> bool
     ensures { λ r. ⌜ r ≡ stillEdge s l ⌝ }
 {
-    all_zero(s) | (l.alpha == 0)
+    no_strength(s) | (l.alpha == 0)
 }

@@ -15,7 +15,7 @@ use Rattle.strengths.specs.Checks.{disagree}
 use Rattle.strengths.specs.Strength.{frame, strengthAt, written}
 use Rattle.strengths.specs.Kinds.{isKind}
 use Rattle.strengths.specs.ByKind.{strengthBy}
-use Rattle.strengths.specs.Calls.{gridChecks, blockChecks, deriveChecks, answerOf, oneFlag, untrueKind, untrueFlags, DeriveOutcome, KindOutcome, FlagsOutcome, PlainOutcome}
+use Rattle.strengths.specs.Calls.{lengthChecks, blockChecks, deriveChecks, answerOf, oneFlag, untrueKind, untrueFlags, DeriveOutcome, KindOutcome, FlagsOutcome, PlainOutcome}
 use Rattle.strengths.specs.declared.kinds.MbKind.{MbKind}
 use Rattle.edges.specs.declared.Size.{Size}
 use Rattle.strengths.specs.declared.kinds.Flagged.{Flagged}
@@ -26,7 +26,7 @@ use Rattle.strengths.proofs.GridsFit.{grids-fit, Derivable, derivable}
 module _ (size : Size) (x y : ℕ) (g : Grids) (n : ℕ) where
   -- ---- what is known once checks 1 to 11 have passed
   pub passed-derivable : refusal (deriveChecks size x y g n) ≡ 0 → Derivable size x y g n
-  passed-derivable e = derivable size x y g n (grids-fit size x y g n (refusal-left (gridChecks size x y g n) (blockChecks size x y g) tt e))
+  passed-derivable e = derivable size x y g n (grids-fit size x y g n (refusal-left (lengthChecks size x y g n) (blockChecks size x y g) tt e))
 
   pub agrees : refusal (deriveChecks size x y g n) ≡ 0 → disagree (g .inter) (size .w) x y ≡ false
   agrees e =
@@ -38,8 +38,8 @@ module _ (size : Size) (x y : ℕ) (g : Grids) (n : ℕ) where
   answer-cut untrue = refusal-cut (deriveChecks size x y g n) ((12, untrue) ∷ []) tt
 
   -- the checks may be made in two parts
-  pub checks-cut : refusal (deriveChecks size x y g n) ≡ cond (eqb (refusal (gridChecks size x y g n)) 0) (refusal (blockChecks size x y g)) (refusal (gridChecks size x y g n))
-  checks-cut = refusal-cut (gridChecks size x y g n) (blockChecks size x y g) tt
+  pub checks-cut : refusal (deriveChecks size x y g n) ≡ cond (eqb (refusal (lengthChecks size x y g n)) 0) (refusal (blockChecks size x y g)) (refusal (lengthChecks size x y g n))
+  checks-cut = refusal-cut (lengthChecks size x y g n) (blockChecks size x y g) tt
 
 module _ (size : Size) (x y : ℕ) (t8 : Bool) (g : Grids) (untrue : Bool) (s : List ℕ) where
   pub refused : (n : ℕ) → n ≡ refusal (deriveChecks size x y g (length s)) → (n ≡ 0 → ⊥) → DeriveOutcome size x y t8 g untrue s n s

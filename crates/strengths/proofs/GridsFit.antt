@@ -15,7 +15,7 @@ use Rattle.motion.specs.Grids.{Grids}
 use Rattle.motion.specs.Inner.{Optional, Hold}
 use Rattle.strengths.specs.Blocks.{ownBlock}
 use Rattle.strengths.specs.Inner.{InGrids}
-use Rattle.strengths.specs.Calls.{gridChecks}
+use Rattle.strengths.specs.Calls.{lengthChecks}
 use Rattle.edges.specs.declared.Size.{Size}
 use Rattle.strengths.proofs.Sized.{Sized, sized}
 
@@ -30,18 +30,18 @@ pub record GridsFit (size : Size) (x y : ℕ) (g : Grids) (n : ℕ) : Type 0 whe
   pub vectors : length (g .mv0) ≡ 2 * (16 * (size .w * size .h))
   pub list1 : ((length (g .ref1) ≡ 0) × (length (g .mv1) ≡ 0)) ⊎ ((length (g .ref1) ≡ 16 * (size .w * size .h)) × (length (g .mv1) ≡ 2 * (16 * (size .w * size .h))))
 
-pub grids-fit : (size : Size) (x y : ℕ) (g : Grids) (n : ℕ) → refusal (gridChecks size x y g n) ≡ 0 → GridsFit size x y g n
+pub grids-fit : (size : Size) (x y : ℕ) (g : Grids) (n : ℕ) → refusal (lengthChecks size x y g n) ≡ 0 → GridsFit size x y g n
 grids-fit size x y g n e =
-    let o = or-false (leb (size .w) x) (leb (size .h) y) (passes 2 (gridChecks size x y g n) tt e) in
-    let a = or-false _ _ (passes 5 (gridChecks size x y g n) tt e) in
+    let o = or-false (leb (size .w) x) (leb (size .h) y) (passes 2 (lengthChecks size x y g n) tt e) in
+    let a = or-false _ _ (passes 5 (lengthChecks size x y g n) tt e) in
     let b = or-false _ _ (a .0) in
     let c = or-false _ _ (b .0) in
     let d = or-false _ _ (c .0) in
     record {
-      sides = sized size (passes 1 (gridChecks size x y g n) tt e);
+      sides = sized size (passes 1 (lengthChecks size x y g n) tt e);
       column = leb-false (size .w) x (o .0);
       line = leb-false (size .h) y (o .1);
-      strengths = equal _ _ (passes 4 (gridChecks size x y g n) tt e);
+      strengths = equal _ _ (passes 4 (lengthChecks size x y g n) tt e);
       inters = equal _ _ (d .0);
       counts = equal _ _ (d .1);
       refs = equal _ _ (c .1);

@@ -16,7 +16,7 @@ use Rattle.motion.specs.Grids.{Grids, grids, coded, blockRead, blkAt}
 use Rattle.motion.specs.Motion.{used, mismatched, differ, interStrength}
 use Rattle.strengths.specs.Blocks.{someRead}
 use Rattle.strengths.specs.Checks.{badInter, badRefs, disagree}
-use Rattle.strengths.specs.Calls.{gridChecks, answerOf, oneFlag, DeriveOutcome, KindOutcome}
+use Rattle.strengths.specs.Calls.{lengthChecks, answerOf, oneFlag, DeriveOutcome, KindOutcome}
 use Rattle.strengths.specs.Strength.{vertical, edge, qBlock, pBlock, frame, skipped, between, strengthAt, written}
 use Rattle.strengths.specs.ByKind.{strengthBy}
 use Rattle.strengths.specs.declared.kinds.MbKind.the-variants.{Intra, InterUniform}
@@ -88,7 +88,7 @@ mixedInter =
     [] []
 
 abbrev exchanged : ℕ
-exchanged = refusal (gridChecks oneMb 0 0 mixedInter 32 ++ (7, badInter mixedInter 1 0 0) ∷ (11, disagree (mixedInter .inter) 1 0 0) ∷ (10, badRefs mixedInter 1 0 0) ∷ [])
+exchanged = refusal (lengthChecks oneMb 0 0 mixedInter 32 ++ (7, badInter mixedInter 1 0 0) ∷ (11, disagree (mixedInter .inter) 1 0 0) ∷ (10, badRefs mixedInter 1 0 0) ∷ [])
 
 pub not-exchanged : exchanged ≡ answerOf oneMb 0 0 mixedInter false 32 → ⊥
 unfolding answerOf someRead some disagree

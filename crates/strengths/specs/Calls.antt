@@ -18,15 +18,15 @@ use Rattle.strengths.specs.declared.kinds.Flagged.{Flagged}
 use Rattle.strengths.specs.declared.kinds.Plain.{Plain}
 
 -- ---- checks 1 to 11; n is the length of the strengths grid
-abbrev pub gridChecks : Size → ℕ → ℕ → Grids → ℕ → List (ℕ × Bool)
-gridChecks size x y g n =
+abbrev pub lengthChecks : Size → ℕ → ℕ → Grids → ℕ → List (ℕ × Bool)
+lengthChecks size x y g n =
     (1, badSize size) ∷ (2, outsideOf size x y) ∷ (4, badStrengths size n) ∷ (5, badBlocks (16 * (size .w * size .h)) g) ∷ []
 
 abbrev pub blockChecks : Size → ℕ → ℕ → Grids → List (ℕ × Bool)
 blockChecks size x y g = (7, badInter g (size .w) x y) ∷ (10, badRefs g (size .w) x y) ∷ (11, disagree (g .inter) (size .w) x y) ∷ []
 
 abbrev pub deriveChecks : Size → ℕ → ℕ → Grids → ℕ → List (ℕ × Bool)
-deriveChecks size x y g n = gridChecks size x y g n ++ blockChecks size x y g
+deriveChecks size x y g n = lengthChecks size x y g n ++ blockChecks size x y g
 
 -- ---- the answer: `untrue` is check 12
 unfoldable pub answerOf : Size → ℕ → ℕ → Grids → Bool → ℕ → ℕ

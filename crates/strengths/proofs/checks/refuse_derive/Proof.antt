@@ -7,7 +7,7 @@ use Prim.Native.Nat.{ℕ}
 use lib.Dec.{eqb}
 use Rattle.laws.specs.Refusal.{refusal}
 use Rattle.motion.specs.Grids.{Grids, grids}
-use Rattle.strengths.specs.Calls.{gridChecks, blockChecks, deriveChecks}
+use Rattle.strengths.specs.Calls.{lengthChecks, blockChecks, deriveChecks}
 use Rattle.strengths.proofs.DeriveOutcomes.{checks-cut}
 use Rattle.strengths.proofs.GridsFit.{GridsFit, grids-fit, list1-inside, Derivable, derivable}
 use Rattle.strengths.proofs.checks.refuse_derive.Statement.{statement}
@@ -20,7 +20,7 @@ given c = let a = c .args in grids (a .inter .now) (a .nnz .now) (a .ref0 .now) 
 abbrev start : tie.Else1 → tie.Start
 start c = c .before .before .before .before
 
-zero : (c : tie.Else1) → let s = start c in refusal (gridChecks (s .args .size) (s .args .x) (s .args .y) (given s) (s .args .strengths)) ≡ 0
+zero : (c : tie.Else1) → let s = start c in refusal (lengthChecks (s .args .size) (s .args .x) (s .args .y) (given s) (s .args .strengths)) ≡ 0
 zero c = sym (c .before .refuse-lengths .ensures) ∙ c .if1 .left
 
 ok : (c : tie.Else1) → let s = start c in GridsFit (s .args .size) (s .args .x) (s .args .y) (given s) (s .args .strengths)
@@ -40,7 +40,7 @@ returns : tie.Need-returns
 returns c =
     let s = c .before .before .before .before in
     let e = c .before .refuse-lengths .ensures in
-    e ∙ sym (checks-cut (s .args .size) (s .args .x) (s .args .y) (given s) (s .args .strengths) ∙ ap (λ (b : Bool). cond b (refusal (blockChecks (s .args .size) (s .args .x) (s .args .y) (given s))) (refusal (gridChecks (s .args .size) (s .args .x) (s .args .y) (given s) (s .args .strengths)))) (ne-eqb _ 0 (λ k. c .if1 .taken (e ∙ k))))
+    e ∙ sym (checks-cut (s .args .size) (s .args .x) (s .args .y) (given s) (s .args .strengths) ∙ ap (λ (b : Bool). cond b (refusal (blockChecks (s .args .size) (s .args .x) (s .args .y) (given s))) (refusal (lengthChecks (s .args .size) (s .args .x) (s .args .y) (given s) (s .args .strengths)))) (ne-eqb _ 0 (λ k. c .if1 .taken (e ∙ k))))
 
 returns-2 : tie.Need-returns-2
 returns-2 c = rest (c .before .before) (simp (sym (c .before .some-read .ensures) ∙ c .if2 .taken))

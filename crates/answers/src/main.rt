@@ -2,9 +2,9 @@
 // with what the call left. What it must print (stdout) was made by the Rust original:
 // host/oracle/examples/answers.rs makes the same calls of it.
 use edges::Offsets;
-use edges::Size;
 use libc::STDOUT_FILENO;
 use pictures::rows::filter_frame;
+use sizes::Size;
 use strengths::calls::derive_mb;
 use strengths::calls::derive_mb_bs;
 use strengths::calls::derive_mb_kind;

@@ -4,8 +4,8 @@
 // V are filled differently, so that samples of one that end in the other show.
 ghost use Prim.Native.Nat.{_<_};
 use edges::Offsets;
-use edges::Size;
 use libc::STDOUT_FILENO;
+use sizes::Size;
 use visits::visits::replay;
 
 fn text(s: &[u8]) {

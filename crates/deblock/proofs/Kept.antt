@@ -7,7 +7,7 @@ use Prim.Native.Nat.{ℕ, _<_, _≤_}
 use borrow.Author.Tests.{lt-ltb, le-ltb}
 use Rattle.edges.specs.Picture.{Planes}
 use Rattle.edges.specs.declared.Offsets.{Offsets}
-use Rattle.edges.specs.declared.Size.{Size}
+use Rattle.sizes.specs.declared.Size.{Size}
 use Rattle.motion.specs.Grids.{Grids}
 use Rattle.strengths.specs.Calls.{DeriveOutcome, untrueKind}
 use Rattle.pictures.specs.Checks.{lent}

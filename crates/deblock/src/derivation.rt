@@ -4,7 +4,7 @@ ghost use mathlib.Core.Bool.{false};
 ghost use Rattle.motion.specs.Grids.{grids};
 ghost use Rattle.strengths.specs.Calls.{DeriveOutcome, FlagsOutcome, PlainOutcome};
 ghost use Rattle.deblock.specs.Numbers.{sizeOf, plain, flagged, kindNumber, untrueNumber};
-use edges::Size;
+use sizes::Size;
 use strengths::calls::derive_mb;
 use strengths::calls::derive_mb_bs;
 use strengths::calls::derive_mb_kind;

@@ -4,9 +4,9 @@ ghost use Rattle.pictures.specs.Checks.{lent};
 ghost use Rattle.pictures.specs.Rows.{RowOutcome, FrameOutcome};
 ghost use Rattle.deblock.specs.Numbers.{sizeOf, offsets};
 use edges::Offsets;
-use edges::Size;
 use pictures::rows::filter_frame;
 use pictures::rows::filter_frame_rows;
+use sizes::Size;
 
 // A whole picture.
 #[no_mangle]

@@ -4,7 +4,7 @@ ghost use Rattle.pictures.specs.Checks.{lent};
 ghost use Rattle.visits.specs.Promise.{VisitOutcome};
 ghost use Rattle.deblock.specs.Numbers.{sizeOf, offsets};
 use edges::Offsets;
-use edges::Size;
+use sizes::Size;
 use visits::visits::visit;
 
 // One macroblock, marked once filtered.

@@ -7,11 +7,11 @@ ghost use Rattle.lines.specs.Inner.{tables};
 ghost use Rattle.edges.specs.Picture.{planes, held, macroblockAt, rowOf, rowsOf};
 ghost use Rattle.edges.specs.Inner.{Room};
 use crate::Offsets;
-use crate::Size;
 use crate::macroblock::all_zero;
 use crate::macroblock::chroma_planes;
 use crate::macroblock::luma_plane;
 use crate::settings::plan_at;
+use sizes::Size;
 
 // Macroblock (x, row). Where all its strengths are 0 nothing is to do.
 pub fn macroblock(

@@ -5,8 +5,8 @@ use Prim.Native.Nat.{ℕ, _*_}
 use lib.Dec.{eqb}
 use lib.ListN.{length}
 use Rattle.laws.proofs.Bools.{or-false, equal, full}
-use Rattle.strengths.specs.Checks.{badSize}
-use Rattle.strengths.proofs.Sized.{Sized, sized}
+use Rattle.sizes.specs.Sizes.{badSize}
+use Rattle.sizes.proofs.Sized.{Sized, sized}
 use Rattle.pictures.specs.Checks.{Lent, badPlanes, badLent}
 
 -- ly, lu, lv are the lengths of the planes

@@ -15,7 +15,7 @@ use Rattle.laws.proofs.Lists.{past}
 use Rattle.motion.specs.Grids.{Grids}
 use Rattle.edges.specs.Picture.{Planes, entries, flagAt, heldBy, held, frameOf}
 use Rattle.edges.specs.declared.Offsets.{Offsets}
-use Rattle.edges.specs.declared.Size.{Size}
+use Rattle.sizes.specs.declared.Size.{Size}
 use Rattle.strengths.specs.Calls.{PlainOutcome}
 use Rattle.pictures.specs.Checks.{lent}
 use Rattle.pictures.specs.Rows.{FrameOutcome}

@@ -10,8 +10,8 @@ use lib.Signed.{ltZ}
 use Rattle.laws.specs.Some.{some}
 use Rattle.edges.specs.Picture.{Held, held}
 use Rattle.edges.specs.declared.Offsets.{Offsets}
-use Rattle.edges.specs.declared.Size.{Size}
-use Rattle.strengths.specs.Checks.{badSize}
+use Rattle.sizes.specs.declared.Size.{Size}
+use Rattle.sizes.specs.Sizes.{badSize}
 
 -- what is lent beside the planes, and only read
 pub record Lent : Type 0 where

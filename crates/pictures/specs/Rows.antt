@@ -8,7 +8,7 @@ use lib.Dec.{eqb, ltb}
 use lib.ListN.{length}
 use Rattle.laws.specs.Refusal.{refusal}
 use Rattle.edges.specs.Picture.{Planes, rowsOf}
-use Rattle.edges.specs.declared.Size.{Size}
+use Rattle.sizes.specs.declared.Size.{Size}
 use Rattle.pictures.specs.Checks.{Lent, heldOf, badQp, someBad, someBadFlag, someBadStrength, Reads, filterChecks}
 
 -- 2

@@ -9,7 +9,7 @@ use lib.ListN.{length, getD}
 use Rattle.motion.specs.Grids.{Grids}
 use Rattle.edges.specs.Picture.{Planes, Held, flagAt, heldBy, frameOf}
 use Rattle.edges.specs.declared.Offsets.{Offsets}
-use Rattle.edges.specs.declared.Size.{Size}
+use Rattle.sizes.specs.declared.Size.{Size}
 use Rattle.strengths.specs.Strength.{frame, strengthAt}
 
 -- byte k of the macroblock of index i; outside the picture there is none

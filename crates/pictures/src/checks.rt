@@ -7,8 +7,8 @@ ghost use lib.ListN.{length};
 ghost use Rattle.laws.specs.Refusal.{refusal};
 ghost use Rattle.pictures.specs.Checks.{badPlanes, badLent, badOffsets, someBad, someBadFlag, someBadStrength, pictureChecks, gridChecks};
 use edges::Offsets;
-use edges::Size;
-use strengths::checks::bad_size;
+use sizes::Size;
+use sizes::bad_size;
 
 // Check 3: lengths of planes, for n macroblocks.
 fn bad_planes(n: usize, luma: usize, u: usize, v: usize) -> bool

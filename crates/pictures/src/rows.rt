@@ -14,9 +14,9 @@ use crate::checks::any_over;
 use crate::checks::refuse_grids;
 use crate::checks::refuse_picture;
 use edges::Offsets;
-use edges::Size;
 use edges::picture::rows;
 use lines::tables::all;
+use sizes::Size;
 
 // The first macroblock whose QP rows a to b read.
 fn qps_from(w: usize, a: usize, b: usize) -> usize

@@ -7,7 +7,7 @@ use lib.Dec.{eqb}
 use lib.ListN.{length, getD}
 use Rattle.laws.specs.Some.{every}
 use Rattle.laws.proofs.Bools.{and-true}
-use Rattle.edges.specs.declared.Size.{Size}
+use Rattle.sizes.specs.declared.Size.{Size}
 use Rattle.motion.specs.Grids.{Grids}
 use Rattle.strengths.specs.Calls.{PlainOutcome}
 use Rattle.strengths.specs.declared.kinds.Plain.{Plain}

@@ -8,7 +8,7 @@ use lib.Dec.{eqb}
 use lib.ListN.{length, getD}
 use Rattle.laws.specs.Loop.{upTo}
 use Rattle.laws.specs.Some.{every}
-use Rattle.edges.specs.declared.Size.{Size}
+use Rattle.sizes.specs.declared.Size.{Size}
 use Rattle.motion.specs.Grids.{Grids}
 use Rattle.strengths.specs.Calls.{answerOf, oneFlag}
 use Rattle.strengths.specs.Strength.{frame, strengthAt, written}

@@ -12,7 +12,7 @@ ghost use Rattle.recordings.specs.Places.{columnAt, rowAt};
 use crate::bytes::byte_at;
 use crate::bytes::fill;
 use crate::space;
-use edges::Size;
+use sizes::Size;
 use strengths::calls::derive_mb;
 use strengths::kinds::Plain;
 

@@ -16,7 +16,7 @@ use bytes::number;
 use bytes::text;
 use bytes::verdict;
 use edges::Offsets;
-use edges::Size;
+use sizes::Size;
 
 // An offset: a byte that stands for -128 to 127.
 fn offset(b: u8) -> i32 {

@@ -14,8 +14,8 @@ use crate::grids::column;
 use crate::grids::row;
 use crate::space;
 use edges::Offsets;
-use edges::Size;
 use pictures::rows::filter_frame;
+use sizes::Size;
 use visits::visits::visit;
 
 // 120 passes over n macroblocks: each pass visits one at least, so n are enough.

@@ -17,7 +17,7 @@ use Rattle.strengths.specs.Kinds.{isKind}
 use Rattle.strengths.specs.ByKind.{strengthBy}
 use Rattle.strengths.specs.Calls.{lengthChecks, blockChecks, deriveChecks, answerOf, oneFlag, untrueKind, untrueFlags, DeriveOutcome, KindOutcome, FlagsOutcome, PlainOutcome}
 use Rattle.strengths.specs.declared.kinds.MbKind.{MbKind}
-use Rattle.edges.specs.declared.Size.{Size}
+use Rattle.sizes.specs.declared.Size.{Size}
 use Rattle.strengths.specs.declared.kinds.Flagged.{Flagged}
 use Rattle.strengths.specs.declared.kinds.Request.{Request}
 use Rattle.strengths.proofs.ByKind.{kind-is}

@@ -7,7 +7,7 @@ use Rattle.laws.specs.Some.{some}
 use Rattle.motion.specs.Far.{outside}
 use Rattle.motion.specs.Grids.{Grids, grids, blockRead}
 use Rattle.motion.specs.Motion.{used, mismatched, differ, interStrength}
-use Rattle.edges.specs.declared.Size.{Size}
+use Rattle.sizes.specs.declared.Size.{Size}
 use Rattle.strengths.specs.Blocks.{someRead}
 use Rattle.strengths.specs.Checks.{disagree}
 use Rattle.strengths.specs.Calls.{answerOf, oneFlag}

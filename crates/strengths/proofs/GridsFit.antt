@@ -16,8 +16,8 @@ use Rattle.motion.specs.Inner.{Optional, Hold}
 use Rattle.strengths.specs.Blocks.{ownBlock}
 use Rattle.strengths.specs.Inner.{InGrids}
 use Rattle.strengths.specs.Calls.{lengthChecks}
-use Rattle.edges.specs.declared.Size.{Size}
-use Rattle.strengths.proofs.Sized.{Sized, sized}
+use Rattle.sizes.specs.declared.Size.{Size}
+use Rattle.sizes.proofs.Sized.{Sized, sized}
 
 pub record GridsFit (size : Size) (x y : ℕ) (g : Grids) (n : ℕ) : Type 0 where
   pub sides : Sized size

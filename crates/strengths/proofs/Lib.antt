@@ -7,5 +7,4 @@ pub mod Inclusion
 pub mod DeriveOutcomes
 pub mod GridsFit
 pub mod Refused
-pub mod Sized
 pub mod Written

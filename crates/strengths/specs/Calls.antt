@@ -9,10 +9,11 @@ use lib.Dec.{eqb}
 use lib.ListN.{length}
 use Rattle.laws.specs.Refusal.{refusal}
 use Rattle.motion.specs.Grids.{Grids}
-use Rattle.strengths.specs.Checks.{badSize, outsideOf, badStrengths, badBlocks, badInter, badRefs, disagree}
+use Rattle.strengths.specs.Checks.{badStrengths, badBlocks, badInter, badRefs, disagree}
+use Rattle.sizes.specs.Sizes.{badSize, outsideOf}
 use Rattle.strengths.specs.Kinds.{isKind, flat, uniform}
 use Rattle.strengths.specs.Strength.{frame, strengthAt, written}
-use Rattle.edges.specs.declared.Size.{Size}
+use Rattle.sizes.specs.declared.Size.{Size}
 use Rattle.strengths.specs.declared.kinds.Request.{Request}
 use Rattle.strengths.specs.declared.kinds.Flagged.{Flagged}
 use Rattle.strengths.specs.declared.kinds.Plain.{Plain}

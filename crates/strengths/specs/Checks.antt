@@ -9,15 +9,7 @@ use lib.Signed.{ltZ}
 use Rattle.laws.specs.Some.{some}
 use Rattle.motion.specs.Grids.{Grids, refAt}
 use Rattle.strengths.specs.Blocks.{origin, ownBlock, leftBlock, aboveBlock, someRead}
-use Rattle.edges.specs.declared.Size.{Size}
-
--- 1: W, H or their product is outside its range
-abbrev pub badSize : Size → Bool
-badSize size = eqb (size .w) 0 || ltb 256 (size .w) || eqb (size .h) 0 || ltb 256 (size .h) || ltb 36864 (size .w * size .h)
-
--- 2: the macroblock is outside the picture
-abbrev pub outsideOf : Size → ℕ → ℕ → Bool
-outsideOf size x y = leb (size .w) x || leb (size .h) y
+use Rattle.sizes.specs.declared.Size.{Size}
 
 -- 4: the strengths grid has the wrong length
 abbrev pub badStrengths : Size → ℕ → Bool

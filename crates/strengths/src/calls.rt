@@ -23,7 +23,7 @@ use crate::kinds::says_any;
 use crate::kinds::untrue_by;
 use crate::walks::Sought;
 use crate::walks::own_have;
-use edges::Size;
+use sizes::Size;
 
 // Check 12: what is said is not true of the grids. Where nothing is said they are not walked.
 fn untrue_known<'a>(

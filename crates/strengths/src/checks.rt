@@ -7,25 +7,16 @@ ghost use Rattle.laws.specs.Refusal.{refusal};
 ghost use Rattle.motion.specs.Grids.{grids};
 ghost use Rattle.strengths.specs.Blocks.{someRead};
 ghost use Rattle.strengths.specs.Inner.{InGrids, soughtAt, placesOf};
-ghost use Rattle.strengths.specs.Checks.{badSize, outsideOf, badStrengths, badLengths, belowNone, disagree};
+ghost use Rattle.strengths.specs.Checks.{badStrengths, badLengths, belowNone, disagree};
+ghost use Rattle.sizes.specs.Sizes.{badSize, outsideOf};
 ghost use Rattle.strengths.specs.Calls.{deriveChecks};
 use crate::walks::Sought;
 use crate::walks::beside_differ;
 use crate::walks::beside_have;
 use crate::walks::own_differ;
 use crate::walks::own_have;
-use edges::Size;
-
-pub fn bad_size(size: Size) -> bool
-    ensures { λ r. ⌜ r ≡ badSize size ⌝ }
-{
-    let w = size.w;
-    let h = size.h;
-    if (w == 0) | (256 < w) | (h == 0) | (256 < h) {
-        return true;
-    }
-    36864 < w * h
-}
+use sizes::Size;
+use sizes::bad_size;
 
 fn bad_lengths(
     n: usize,

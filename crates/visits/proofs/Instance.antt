@@ -15,7 +15,7 @@ use Rattle.edges.proofs.Steps.{step-commute}
 use Rattle.edges.proofs.Pictures.{macroblock-sized}
 use Rattle.visits.specs.Instance.{AsksPlace, Commutes, Passes}
 use Rattle.visits.specs.Beyond.{Bits}
-use Rattle.strengths.specs.Checks.{outsideOf}
+use Rattle.sizes.specs.Sizes.{outsideOf}
 use Rattle.pictures.specs.Checks.{Lent, heldOf, badPlanes, badLent, badFlag, badQp, badStrength, someBad, someBadFlag}
 use Rattle.visits.specs.Checks.{badMark, badMarks, badQps, visitChecks, earlyOf, Sound, Fit}
 use Rattle.laws.proofs.Bools.{and-false}

@@ -12,7 +12,7 @@ use Rattle.laws.proofs.Bools.{or-false, equal}
 use Rattle.laws.proofs.Grid.{index-lt, row-fits}
 use Rattle.laws.proofs.Refusal.{passes}
 use Rattle.edges.specs.Inner.{Room}
-use Rattle.strengths.specs.Checks.{outsideOf}
+use Rattle.sizes.specs.Sizes.{outsideOf}
 use Rattle.pictures.specs.Checks.{Lent}
 use Rattle.pictures.proofs.Fitting.{Fitting, fitting}
 use Rattle.visits.specs.Visit.{At}

@@ -9,7 +9,7 @@ use lib.Dec.{eqb, ltb}
 use lib.ListN.{length, getD}
 use Rattle.laws.specs.Refusal.{refusal}
 use Rattle.edges.specs.Picture.{Planes}
-use Rattle.strengths.specs.Checks.{badSize, outsideOf}
+use Rattle.sizes.specs.Sizes.{badSize, outsideOf}
 use Rattle.pictures.specs.Checks.{Lent, badLent, badOffsets, badFlag, badQp, badStrength, someBadFlag, someBadStrength, Reads, filterChecks}
 use Rattle.visits.specs.Visit.{At, State}
 

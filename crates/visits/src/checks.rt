@@ -9,11 +9,11 @@ ghost use Rattle.pictures.specs.Checks.{lent, entryChecks};
 ghost use Rattle.visits.specs.Checks.{badBefore, badMarks, badQps, visitReads, visitChecks};
 ghost use Rattle.visits.specs.Inner.{InPicture};
 use edges::Offsets;
-use edges::Size;
 use pictures::checks::any_bad_flag;
 use pictures::checks::any_bad_strength;
 use pictures::checks::refuse_grids;
 use pictures::checks::refuse_picture;
+use sizes::Size;
 
 // Where there is a neighbour d places before i, its entry is above `top`.
 fn over_before(there: bool, s: &[u8], i: usize, d: usize, top: u8) -> bool

@@ -11,9 +11,9 @@ ghost use Rattle.visits.specs.Promise.{VisitOutcome, ReplayOutcome};
 ghost use Rattle.visits.specs.Visit.{waiting};
 use crate::checks::refuse_early;
 use edges::Offsets;
-use edges::Size;
 use edges::picture::macroblock;
 use lines::tables::all;
+use sizes::Size;
 
 // Where there is a neighbour d places before i, it is unmarked.
 fn lacks(there: bool, marks: &[u8], i: usize, d: usize) -> bool

@@ -5,8 +5,8 @@ use mathlib.Core.Bool.{false, cond}
 use Prim.Native.Nat.{ℕ}
 use native.Mathlib.Omega.{arith}
 use Rattle.laws.proofs.Refusal.{skip, stop}
-use Rattle.strengths.specs.Checks.{badSize}
-use Rattle.strengths.proofs.Sized.{Sized, sized}
+use Rattle.sizes.specs.Sizes.{badSize}
+use Rattle.sizes.proofs.Sized.{Sized, sized}
 use Rattle.pictures.proofs.checks.refuse_picture.Statement.{statement}
 use Rattle.pictures.proofs.checks.refuse_picture.Tie as tie
 

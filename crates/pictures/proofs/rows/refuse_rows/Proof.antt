@@ -10,7 +10,7 @@ use lib.ListN.{length}
 use Rattle.laws.specs.Refusal.{refusal}
 use Rattle.laws.proofs.Bools.{or-false}
 use Rattle.laws.proofs.Refusal.{first-applies, first-passed, passes}
-use Rattle.strengths.proofs.Sized.{Sized, sized}
+use Rattle.sizes.proofs.Sized.{Sized, sized}
 use Rattle.pictures.specs.Checks.{Lent, lent, pictureChecks, gridChecks, entryChecks}
 use Rattle.pictures.specs.Rows.{badRange, rowReads}
 use Rattle.pictures.proofs.Fitting.{fitting}

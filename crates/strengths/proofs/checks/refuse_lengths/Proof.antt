@@ -4,8 +4,8 @@ use borrow.Author.Tests.{eq-eqb, ne-eqb}
 use mathlib.Core.Path.{_≡_, sym, _∙_}
 use mathlib.Core.Bool.{false}
 use native.Mathlib.Omega.{arith}
-use Rattle.strengths.specs.Checks.{badSize}
-use Rattle.strengths.proofs.Sized.{Sized, sized}
+use Rattle.sizes.specs.Sizes.{badSize}
+use Rattle.sizes.proofs.Sized.{Sized, sized}
 use Rattle.strengths.proofs.checks.refuse_lengths.Statement.{statement}
 use Rattle.strengths.proofs.checks.refuse_lengths.Tie as tie
 

@@ -11,8 +11,8 @@ use lib.ListN.{length}
 use Rattle.laws.specs.Refusal.{refusal}
 use Rattle.laws.proofs.Bools.{or-false}
 use Rattle.laws.proofs.Refusal.{first-applies, first-passed, passes}
-use Rattle.strengths.specs.Checks.{outsideOf}
-use Rattle.strengths.proofs.Sized.{Sized, sized}
+use Rattle.sizes.specs.Sizes.{outsideOf}
+use Rattle.sizes.proofs.Sized.{Sized, sized}
 use Rattle.pictures.specs.Checks.{Lent, lent, pictureChecks, gridChecks, entryChecks}
 use Rattle.pictures.proofs.Fitting.{fitting}
 use Rattle.visits.specs.Checks.{visitReads}

@@ -7,8 +7,8 @@ use native.Mathlib.Omega.{arith}
 use borrow.Author.Tests.{eqb-false, ltb-false}
 use lib.Dec.{eqb, ltb}
 use Rattle.laws.proofs.Bools.{or-false}
-use Rattle.strengths.specs.Checks.{badSize}
-use Rattle.edges.specs.declared.Size.{Size}
+use Rattle.sizes.specs.Sizes.{badSize}
+use Rattle.sizes.specs.declared.Size.{Size}
 
 -- both sides are 1 to 256
 pub record Sides (w h : ℕ) : Type 0 where

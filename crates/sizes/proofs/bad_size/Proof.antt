@@ -1,8 +1,8 @@
 -- `bad_size`: sides of at most 256 have a product that fits. Assumes nothing.
 use native.Mathlib.Omega.{arith}
-use Rattle.strengths.proofs.Sized.{sides}
-use Rattle.strengths.proofs.checks.bad_size.Statement.{statement}
-use Rattle.strengths.proofs.checks.bad_size.Tie as tie
+use Rattle.sizes.proofs.Sized.{sides}
+use Rattle.sizes.proofs.bad_size.Statement.{statement}
+use Rattle.sizes.proofs.bad_size.Tie as tie
 
 pub bad-size-spec : {M : Type 1} → statement M
 bad-size-spec =

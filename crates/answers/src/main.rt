@@ -140,23 +140,23 @@ fn by_kind(x: usize, kind: MbKind, s: &mut [u8]) {
     answer(n, s);
 }
 
-fn show(n: u32, y: &[u8], u: &[u8], v: &[u8]) {
-    answer(n, y);
+fn show(n: u32, luma: &[u8], u: &[u8], v: &[u8]) {
+    answer(n, luma);
     numbers(u);
     numbers(v);
 }
 
 // The whole picture at the QPs 30 and q, by the strengths s.
 fn frame(q: u8, t8s: &[u8], o: Offsets, s: &[u8]) {
-    let mut y = [0; 512];
+    let mut luma = [0; 512];
     let mut u = [0; 128];
     let mut v = [90; 128];
-    rise(&mut y);
+    rise(&mut luma);
     rise(&mut u);
     let n = filter_frame(
         Size { w: 2, h: 1 },
         o,
-        &mut y,
+        &mut luma,
         &mut u,
         &mut v,
         s,
@@ -164,7 +164,7 @@ fn frame(q: u8, t8s: &[u8], o: Offsets, s: &[u8]) {
         t8s,
     );
     text(b"frame ");
-    show(n, &y, &u, &v);
+    show(n, &luma, &u, &v);
 }
 
 fn main() {

@@ -31,6 +31,7 @@ pub struct Both {
     pub v: Thresholds,
 }
 
+// The batch of two edges of both planes.
 fn take(u: &[u8], v: &[u8], at: usize, along: usize, step: usize) -> [u8; 128]
     requires { ⌜ (at + 7 * along + 7 * step < length (now u)) × (at + 7 * along + 7 * step < length (now v)) ⌝ }
     requires { ⌜ Straight 8 along step ⌝ }
@@ -42,6 +43,7 @@ fn take(u: &[u8], v: &[u8], at: usize, along: usize, step: usize) -> [u8; 128]
     load_rows(u, v, at, step)
 }
 
+// Both planes with their columns of the batch t stored.
 fn store(u: &mut [u8], v: &mut [u8], at: usize, along: usize, step: usize, t: [u8; 128])
     requires { ⌜ (at + 7 * along + 7 * step < length (now u)) × (at + 7 * along + 7 * step < length (now v)) ⌝ }
     requires { ⌜ Straight 8 along step ⌝ }
@@ -84,6 +86,7 @@ pub fn chroma_lines(plane: &mut [u8], at: usize, along: usize, step: usize, s: F
     }
 }
 
+// No line of the edge can change, in either plane.
 fn both_still(e: Both) -> bool
     ensures { λ r. ⌜ r ≡ (stillEdge (e .s) (e .u) && stillEdge (e .s) (e .v)) ⌝ }
 {

@@ -17,6 +17,7 @@ use crate::lanes::weak_row;
 use lines::planes::chroma_normal;
 use lines::planes::chroma_strong;
 
+// Lines of the first edge at strengths 1 to 3, then those at 4; the same of the second edge below.
 fn first_normal(t: [u8; 128], s: Four, l: Thresholds, m: Thresholds) -> [u8; 128]
     ensures { λ r. ⌜ r ≡ upTo 16 (passOf isWeak (uvStrength s) (shortAt eight upper s l m)) t ⌝ }
 {
@@ -86,6 +87,7 @@ pub fn first_edge(t: [u8; 128], s: Four, l: Thresholds, m: Thresholds) -> [u8; 1
     first_strong(first_normal(t, s, l, m), s, l, m)
 }
 
+// .. and of the second.
 pub fn second_edge(t: [u8; 128], s: Four, l: Thresholds, m: Thresholds) -> [u8; 128]
     ensures { λ r. ⌜ r ≡ upTo 16 (shortAt eight lower s l m) t ⌝ }
 {

@@ -21,6 +21,7 @@ pub struct Thresholds {
     pub tc3: u8,
 }
 
+// Where a row has the value of a strength: 4 and above are one.
 fn slot(s: u8) -> usize
     ensures is { λ r. ⌜ r ≡ slotOf s ⌝ }
     ensures small { λ r. ⌜ r < 5 ⌝ }
@@ -49,6 +50,7 @@ pub fn strong_row(l: Thresholds) -> [u8; 5]
     [0, 0, 0, 0, l.alpha]
 }
 
+// Sixteen lanes, two of each value.
 fn spread(a: u8, b: u8, c: u8, d: u8, e: u8, f: u8, g: u8, h: u8) -> [u8; 16]
     ensures { λ r. ⌜ r ≡ spreadOf a b c d e f g h ⌝ }
 {
@@ -84,6 +86,7 @@ pub fn eight_each(x: u8, y: u8) -> [u8; 16]
     spread(x, x, x, x, y, y, y, y)
 }
 
+// Filtered in the pass of strengths 1 to 3.
 fn is_weak(s: u8) -> bool
     ensures { λ r. ⌜ r ≡ isWeak s ⌝ }
 {

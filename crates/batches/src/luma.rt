@@ -16,6 +16,7 @@ use crate::moves::store_cols;
 use crate::moves::store_rows;
 use crate::moves::zip;
 
+// The batch of an edge.
 fn take(p: &[u8], at: usize, along: usize, step: usize) -> [u8; 128]
     requires { ⌜ at + 15 * along + 7 * step < length (now p) ⌝ }
     requires { ⌜ Straight 16 along step ⌝ }
@@ -27,6 +28,7 @@ fn take(p: &[u8], at: usize, along: usize, step: usize) -> [u8; 128]
     load_rows(p, at, step)
 }
 
+// The plane with the batch t stored.
 fn store(p: &mut [u8], at: usize, along: usize, step: usize, t: [u8; 128])
     requires { ⌜ at + 15 * along + 7 * step < length (now p) ⌝ }
     requires { ⌜ Straight 16 along step ⌝ }

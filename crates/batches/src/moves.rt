@@ -17,6 +17,7 @@ pub fn zip(a: [u8; 128]) -> [u8; 128]
     b
 }
 
+// 16 samples of p, from the place `from` on, to t, from the place `to` on.
 fn copy16(t: &mut [u8], to: usize, p: &[u8], from: usize)
     requires { ⌜ (to + 16 ≤ length (now t)) × (from + 16 ≤ length (now p)) ⌝ }
     ensures { λ _. ⌜ now (t .exit) ≡ copiedRow 16 to from (now (p .entry)) (now (t .entry)) ⌝ }
@@ -26,6 +27,7 @@ fn copy16(t: &mut [u8], to: usize, p: &[u8], from: usize)
     }
 }
 
+// 8 of them.
 pub fn copy8(t: &mut [u8], to: usize, p: &[u8], from: usize)
     requires { ⌜ (to + 8 ≤ length (now t)) × (from + 8 ≤ length (now p)) ⌝ }
     ensures { λ _. ⌜ now (t .exit) ≡ copiedRow 8 to from (now (p .entry)) (now (t .entry)) ⌝ }

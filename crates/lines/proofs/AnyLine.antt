@@ -1,5 +1,5 @@
--- A line of a plane, whatever rule it goes through: of n + 2 samples here, luma's with n = 6 and chroma's with
--- n = 2. Assumes nothing.
+-- A line of a plane, whatever rule it goes through: of n + 2 samples here, luma's with n = 6 and chroma's
+-- with n = 2. Assumes nothing.
 use mathlib.Core.Path.{_≡_, ap, _∙_}
 use mathlib.Core.List.{List}
 use Prim.Native.Nat.{ℕ, suc, _+_, _*_, _<_}

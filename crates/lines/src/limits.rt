@@ -58,6 +58,7 @@ pub fn chroma_qp(t: &[u8; 282], qp: i16, offset: i32) -> i16
     mapped as i16
 }
 
+// What an edge of the average qp is filtered with.
 pub fn thresholds(t: &[u8; 282], qp: i32, offset_a: i32, offset_b: i32) -> Limits
     requires { ⌜ now t ≡ tables ⌝ }
     ensures { λ r. ⌜ r ≡ thresholdsOf eight qp «offset_a» «offset_b» ⌝ }

@@ -14,6 +14,7 @@ pub struct Two {
     pub q0: u8,
 }
 
+// v, or the end of lo..=hi that it is beyond.
 pub fn clip3(lo: i16, hi: i16, v: i16) -> i16
     ensures { λ r. ⌜ r ≡ clip3 lo hi v ⌝ }
 {
@@ -26,6 +27,7 @@ pub fn clip3(lo: i16, hi: i16, v: i16) -> i16
     }
 }
 
+// The sample nearest to v.
 pub fn clip1(v: i16) -> u8
     ensures { λ r. ⌜ r ≡ clip1 (eight .top) v ⌝ }
 {
@@ -40,6 +42,7 @@ pub fn small_step(a: u8, b: u8, t: u8) -> bool
     if a < b { b - a < t } else { a - b < t }
 }
 
+// filterSamplesFlag, where bS is not 0.
 pub fn filter_samples(alpha: u8, beta: u8, p1: u8, p0: u8, q0: u8, q1: u8) -> bool
     ensures { λ r. ⌜ r ≡ filterSamples alpha beta p1 p0 q0 q1 ⌝ }
 {

@@ -9,7 +9,7 @@ use lib.Arith.{digits-div, digits-mod}
 use Rattle.laws.specs.Places.{Plane}
 use Rattle.laws.specs.Local.{Local}
 use Rattle.laws.specs.Grid.{Near, is-left, is-up, is-up-right}
-use Rattle.laws.specs.Foot.{own, left, upper, Touch, Foot}
+use Rattle.laws.specs.Foot.{touch-own, touch-left, touch-upper, Touch, Foot}
 use Rattle.laws.specs.Order.{Dep}
 use Rattle.laws.proofs.Local.{commute}
 
@@ -19,26 +19,26 @@ pub data Meet (xa ya xb yb : ℕ) : Type 0 where
   after : Near xb yb xa ya → Meet xa ya xb yb
 
 pub meet : (xa ya xb yb bx by : ℕ) → Touch xa ya bx by → Touch xb yb bx by → Meet xa ya xb yb
-meet xa ya xb yb bx by (own c d) (own e f) = equal (omega arith) (omega arith)
-meet xa ya xb yb bx by (own c d) (left e f) = before (is-left (omega arith) (omega arith))
-meet xa ya xb yb bx by (own c d) (upper e f) = before (is-up (omega arith) (omega arith))
-meet xa ya xb yb bx by (left c d) (own e f) = after (is-left (omega arith) (omega arith))
-meet xa ya xb yb bx by (left c d) (left e f) = equal (omega arith) (omega arith)
-meet xa ya xb yb bx by (left c d) (upper e f) = before (is-up-right (omega arith) (omega arith))
-meet xa ya xb yb bx by (upper c d) (own e f) = after (is-up (omega arith) (omega arith))
-meet xa ya xb yb bx by (upper c d) (left e f) = after (is-up-right (omega arith) (omega arith))
-meet xa ya xb yb bx by (upper c d) (upper e f) = equal (omega arith) (omega arith)
+meet xa ya xb yb bx by (touch-own c d) (touch-own e f) = equal (omega arith) (omega arith)
+meet xa ya xb yb bx by (touch-own c d) (touch-left e f) = before (is-left (omega arith) (omega arith))
+meet xa ya xb yb bx by (touch-own c d) (touch-upper e f) = before (is-up (omega arith) (omega arith))
+meet xa ya xb yb bx by (touch-left c d) (touch-own e f) = after (is-left (omega arith) (omega arith))
+meet xa ya xb yb bx by (touch-left c d) (touch-left e f) = equal (omega arith) (omega arith)
+meet xa ya xb yb bx by (touch-left c d) (touch-upper e f) = before (is-up-right (omega arith) (omega arith))
+meet xa ya xb yb bx by (touch-upper c d) (touch-own e f) = after (is-up (omega arith) (omega arith))
+meet xa ya xb yb bx by (touch-upper c d) (touch-left e f) = after (is-up-right (omega arith) (omega arith))
+meet xa ya xb yb bx by (touch-upper c d) (touch-upper e f) = equal (omega arith) (omega arith)
 
 pub decTouch : (x y bx by : ℕ) → Dec (Touch x y bx by)
 decTouch x y bx by = go (ℕ-discrete bx x) (ℕ-discrete (bx + 1) x) (ℕ-discrete by y) (ℕ-discrete (by + 1) y)
   where
     go : Dec (bx ≡ x) → Dec (bx + 1 ≡ x) → Dec (by ≡ y) → Dec (by + 1 ≡ y) → Dec (Touch x y bx by)
-    go (yes a) b (yes c) d = yes (own a c)
-    go (yes a) b (no c) (yes d) = yes (upper a d)
-    go (yes a) b (no c) (no d) = no (λ t. elim t [ own e f ↦ c f | left e f ↦ c f | upper e f ↦ d f ])
-    go (no a) (yes b) (yes c) d = yes (left b c)
-    go (no a) (yes b) (no c) d = no (λ t. elim t [ own e f ↦ a e | left e f ↦ c f | upper e f ↦ a e ])
-    go (no a) (no b) c d = no (λ t. elim t [ own e f ↦ a e | left e f ↦ b e | upper e f ↦ a e ])
+    go (yes a) b (yes c) d = yes (touch-own a c)
+    go (yes a) b (no c) (yes d) = yes (touch-upper a d)
+    go (yes a) b (no c) (no d) = no (λ t. elim t [ touch-own e f ↦ c f | touch-left e f ↦ c f | touch-upper e f ↦ d f ])
+    go (no a) (yes b) (yes c) d = yes (touch-left b c)
+    go (no a) (yes b) (no c) d = no (λ t. elim t [ touch-own e f ↦ a e | touch-left e f ↦ c f | touch-upper e f ↦ a e ])
+    go (no a) (no b) c d = no (λ t. elim t [ touch-own e f ↦ a e | touch-left e f ↦ b e | touch-upper e f ↦ a e ])
 
 -- ---- by index
 pub same-index : (W a b : ℕ) → a % W ≡ b % W → a / W ≡ b / W → a ≡ b

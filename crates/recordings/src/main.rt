@@ -49,7 +49,7 @@ fn load(
     size: Size,
     blocks: usize,
     lists: bool,
-    y: &mut [u8],
+    luma: &mut [u8],
     u: &mut [u8],
     v: &mut [u8],
     ay: &mut [u8],
@@ -61,7 +61,7 @@ fn load(
     s: &mut [u8],
     told: &mut [u8],
 ) -> bool {
-    let before = three(fd, y, u, v);
+    let before = three(fd, luma, u, v);
     let after = three(fd, ay, au, av);
     let others = three(fd, ab, qps, t8s);
     let derived = grids::strengths_of(fd, size, blocks, lists, t8s, s);
@@ -81,7 +81,7 @@ fn same_strengths(free: bool, s: &[u8], told: &[u8]) {
 fn report(
     whole: bool,
     head: Head,
-    y: &[u8],
+    luma: &[u8],
     u: &[u8],
     v: &[u8],
     ay: &[u8],
@@ -103,7 +103,7 @@ fn report(
         chroma: head.chroma,
     };
     same_strengths(head.free, s, told);
-    let d = orders::all(head.size, head.n, o, y, u, v, ay, au, av, told, qps, t8s);
+    let d = orders::all(head.size, head.n, o, luma, u, v, ay, au, av, told, qps, t8s);
     verdict(b"picture", d.whole);
     verdict(b"raster order", d.raster);
     verdict(b"reverse order", d.reverse);
@@ -114,7 +114,7 @@ fn report(
 fn replay(
     fd: i32,
     head: Head,
-    y: &mut [u8],
+    luma: &mut [u8],
     u: &mut [u8],
     v: &mut [u8],
     ay: &mut [u8],
@@ -132,7 +132,7 @@ fn replay(
         head.size,
         blocks,
         head.lists,
-        y,
+        luma,
         u,
         v,
         ay,
@@ -144,7 +144,7 @@ fn replay(
         s,
         told,
     );
-    report(whole, head, y, u, v, ay, au, av, ab, qps, t8s, s, told);
+    report(whole, head, luma, u, v, ay, au, av, ab, qps, t8s, s, told);
     whole
 }
 
@@ -154,7 +154,7 @@ fn picture(fd: i32, head: Head) -> bool {
         text(b" is too large\n");
         return false;
     }
-    let mut y = space::luma();
+    let mut luma = space::luma();
     let mut u = space::chroma();
     let mut v = space::chroma();
     let mut ay = space::luma();
@@ -172,7 +172,7 @@ fn picture(fd: i32, head: Head) -> bool {
     replay(
         fd,
         head,
-        &mut y[..ky],
+        &mut luma[..ky],
         &mut u[..kc],
         &mut v[..kc],
         &mut ay[..ky],

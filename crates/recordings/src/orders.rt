@@ -78,7 +78,7 @@ fn visits_in(
     size: Size,
     n: usize,
     o: Offsets,
-    y: &mut [u8],
+    luma: &mut [u8],
     u: &mut [u8],
     v: &mut [u8],
     s: &[u8],
@@ -86,7 +86,7 @@ fn visits_in(
     t8s: &[u8],
     marks: &mut [u8],
 )
-    ensures { λ _. ⌜ (planes (now (y .exit)) (now (u .exit)) (now (v .exit)), now (marks .exit)) ≡ visitsTo (turnsOf n) way (lent size o (now (s .entry)) (now (qps .entry)) (now (t8s .entry))) n (planes (now (y .entry)) (now (u .entry)) (now (v .entry)), now (marks .entry)) ⌝ }
+    ensures { λ _. ⌜ (planes (now (luma .exit)) (now (u .exit)) (now (v .exit)), now (marks .exit)) ≡ visitsTo (turnsOf n) way (lent size o (now (s .entry)) (now (qps .entry)) (now (t8s .entry))) n (planes (now (luma .entry)) (now (u .entry)) (now (v .entry)), now (marks .entry)) ⌝ }
 {
     for t in 0..turns(n) {
         let i = place(way, t, n);
@@ -95,7 +95,7 @@ fn visits_in(
             column(i, size.w),
             row(i, size.w),
             o,
-            y,
+            luma,
             u,
             v,
             s,
@@ -111,7 +111,7 @@ fn filter(
     size: Size,
     n: usize,
     o: Offsets,
-    y: &mut [u8],
+    luma: &mut [u8],
     u: &mut [u8],
     v: &mut [u8],
     s: &[u8],
@@ -119,19 +119,19 @@ fn filter(
     t8s: &[u8],
     marks: &mut [u8],
 )
-    ensures { λ _. ⌜ (planes (now (y .exit)) (now (u .exit)) (now (v .exit)), now (marks .exit)) ≡ filtered way (lent size o (now (s .entry)) (now (qps .entry)) (now (t8s .entry))) n (planes (now (y .entry)) (now (u .entry)) (now (v .entry)), now (marks .entry)) ⌝ }
+    ensures { λ _. ⌜ (planes (now (luma .exit)) (now (u .exit)) (now (v .exit)), now (marks .exit)) ≡ filtered way (lent size o (now (s .entry)) (now (qps .entry)) (now (t8s .entry))) n (planes (now (luma .entry)) (now (u .entry)) (now (v .entry)), now (marks .entry)) ⌝ }
 {
     if is_whole(way) {
-        filter_frame(size, o, y, u, v, s, qps, t8s);
+        filter_frame(size, o, luma, u, v, s, qps, t8s);
         return;
     }
-    visits_in(way, size, n, o, y, u, v, s, qps, t8s, marks);
+    visits_in(way, size, n, o, luma, u, v, s, qps, t8s, marks);
 }
 
-fn copies(ty: &mut [u8], tu: &mut [u8], tv: &mut [u8], y: &[u8], u: &[u8], v: &[u8])
-    ensures { λ _. ⌜ (now (ty .exit) ≡ copied (now (ty .entry)) (now (y .entry))) × (now (tu .exit) ≡ copied (now (tu .entry)) (now (u .entry))) × (now (tv .exit) ≡ copied (now (tv .entry)) (now (v .entry))) ⌝ }
+fn copies(ty: &mut [u8], tu: &mut [u8], tv: &mut [u8], luma: &[u8], u: &[u8], v: &[u8])
+    ensures { λ _. ⌜ (now (ty .exit) ≡ copied (now (ty .entry)) (now (luma .entry))) × (now (tu .exit) ≡ copied (now (tu .entry)) (now (u .entry))) × (now (tv .exit) ≡ copied (now (tv .entry)) (now (v .entry))) ⌝ }
 {
-    copy(ty, y);
+    copy(ty, luma);
     copy(tu, u);
     copy(tv, v);
 }
@@ -142,13 +142,13 @@ fn same(ty: &[u8], tu: &[u8], tv: &[u8], ay: &[u8], au: &[u8], av: &[u8]) -> boo
     check::same(ty, ay) & check::same(tu, au) & check::same(tv, av)
 }
 
-// Whether planes that are filled with y, u and v become ay, au and av.
+// Whether planes that are filled with luma, u and v become ay, au and av.
 fn becomes(
     way: Way,
     size: Size,
     n: usize,
     o: Offsets,
-    y: &[u8],
+    luma: &[u8],
     u: &[u8],
     v: &[u8],
     ay: &[u8],
@@ -162,9 +162,9 @@ fn becomes(
     tv: &mut [u8],
     marks: &mut [u8],
 ) -> bool
-    ensures { λ r. ⌜ (r ≡ true) ↔ Becomes way (lent size o (now (s .entry)) (now (qps .entry)) (now (t8s .entry))) n (planes (copied (now (ty .entry)) (now (y .entry))) (copied (now (tu .entry)) (now (u .entry))) (copied (now (tv .entry)) (now (v .entry))), now (marks .entry)) (planes (now (ay .entry)) (now (au .entry)) (now (av .entry))) ⌝ }
+    ensures { λ r. ⌜ (r ≡ true) ↔ Becomes way (lent size o (now (s .entry)) (now (qps .entry)) (now (t8s .entry))) n (planes (copied (now (ty .entry)) (now (luma .entry))) (copied (now (tu .entry)) (now (u .entry))) (copied (now (tv .entry)) (now (v .entry))), now (marks .entry)) (planes (now (ay .entry)) (now (au .entry)) (now (av .entry))) ⌝ }
 {
-    copies(ty, tu, tv, y, u, v);
+    copies(ty, tu, tv, luma, u, v);
     filter(way, size, n, o, ty, tu, tv, s, qps, t8s, marks);
     let visited = is_whole(way) | all_ones(marks);
     visited & same(ty, tu, tv, ay, au, av)
@@ -176,7 +176,7 @@ fn holds(
     size: Size,
     n: usize,
     o: Offsets,
-    y: &[u8],
+    luma: &[u8],
     u: &[u8],
     v: &[u8],
     ay: &[u8],
@@ -186,7 +186,7 @@ fn holds(
     qps: &[u8],
     t8s: &[u8],
 ) -> bool
-    ensures { λ r. ⌜ (r ≡ true) ↔ ComesOut way (lent size o (now (s .entry)) (now (qps .entry)) (now (t8s .entry))) n (planes (now (y .entry)) (now (u .entry)) (now (v .entry))) (planes (now (ay .entry)) (now (au .entry)) (now (av .entry))) ⌝ }
+    ensures { λ r. ⌜ (r ≡ true) ↔ ComesOut way (lent size o (now (s .entry)) (now (qps .entry)) (now (t8s .entry))) n (planes (now (luma .entry)) (now (u .entry)) (now (v .entry))) (planes (now (ay .entry)) (now (au .entry)) (now (av .entry))) ⌝ }
 {
     if 120 < n {
         return false;
@@ -202,7 +202,7 @@ fn holds(
         size,
         n,
         o,
-        y,
+        luma,
         u,
         v,
         ay,
@@ -230,7 +230,7 @@ pub fn all(
     size: Size,
     n: usize,
     o: Offsets,
-    y: &[u8],
+    luma: &[u8],
     u: &[u8],
     v: &[u8],
     ay: &[u8],
@@ -240,12 +240,26 @@ pub fn all(
     qps: &[u8],
     t8s: &[u8],
 ) -> Verdicts
-    ensures { λ r. ⌜ Judged (lent size o (now (s .entry)) (now (qps .entry)) (now (t8s .entry))) n (planes (now (y .entry)) (now (u .entry)) (now (v .entry))) (planes (now (ay .entry)) (now (au .entry)) (now (av .entry))) r ⌝ }
+    ensures { λ r. ⌜ Judged (lent size o (now (s .entry)) (now (qps .entry)) (now (t8s .entry))) n (planes (now (luma .entry)) (now (u .entry)) (now (v .entry))) (planes (now (ay .entry)) (now (au .entry)) (now (av .entry))) r ⌝ }
 {
-    let whole = holds(Way::Whole, size, n, o, y, u, v, ay, au, av, s, qps, t8s);
-    let raster = holds(Way::Raster, size, n, o, y, u, v, ay, au, av, s, qps, t8s);
-    let reverse = holds(Way::Reverse, size, n, o, y, u, v, ay, au, av, s, qps, t8s);
-    let sevens = holds(Way::Sevens, size, n, o, y, u, v, ay, au, av, s, qps, t8s);
+    let whole = holds(Way::Whole, size, n, o, luma, u, v, ay, au, av, s, qps, t8s);
+    let raster = holds(Way::Raster, size, n, o, luma, u, v, ay, au, av, s, qps, t8s);
+    let reverse = holds(
+        Way::Reverse,
+        size,
+        n,
+        o,
+        luma,
+        u,
+        v,
+        ay,
+        au,
+        av,
+        s,
+        qps,
+        t8s,
+    );
+    let sevens = holds(Way::Sevens, size, n, o, luma, u, v, ay, au, av, s, qps, t8s);
     Verdicts {
         whole,
         raster,

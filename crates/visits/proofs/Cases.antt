@@ -59,13 +59,13 @@ unfolding visitCases
 visit-cases-hold = (λ i. square-asked i ++ column-asked i, tt)
 
 pub twelve-hold : Holds twelve
-unfolding lines.cases visitCases
-twelve-hold = holds-join lines.cases (motion.motionCases ++ visitCases) lines-proved.cases-hold (holds-join motion.motionCases visitCases motion-proved.cases-hold visit-cases-hold)
+unfolding lines.lineCases visitCases
+twelve-hold = holds-join lines.lineCases (motion.motionCases ++ visitCases) lines-proved.line-cases-hold (holds-join motion.motionCases visitCases motion-proved.cases-hold visit-cases-hold)
 
 -- none is missing
 abbrev pub numberOf : Case → ℕ
 numberOf c = c .number
 
 pub all-twelve : map numberOf twelve ≡ 1 ∷ 2 ∷ 3 ∷ 4 ∷ 5 ∷ 6 ∷ 7 ∷ 8 ∷ 9 ∷ 10 ∷ 11 ∷ 12 ∷ []
-unfolding lines.cases visitCases
+unfolding lines.lineCases visitCases
 all-twelve = refl

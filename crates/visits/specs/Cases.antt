@@ -34,4 +34,4 @@ visitCases = record { number = 12; given = asked faultLent squarePlanes ++ asked
 
 -- document 01, "The proved table": P1 to P8, P9 to P11, P12
 abbrev pub twelve : List Case
-twelve = lines.cases ++ motion.motionCases ++ visitCases
+twelve = lines.lineCases ++ motion.motionCases ++ visitCases

@@ -17,7 +17,7 @@ use crate::lanes::weak_row;
 use lines::planes::chroma_normal;
 use lines::planes::chroma_strong;
 
-// Lines of the first edge at strengths 1 to 3, then those at 4; the same of the second edge below.
+// The lines of the first edge, in rows 0 to 3, at strengths 1 to 3.
 fn first_normal(t: [u8; 128], s: Four, l: Thresholds, m: Thresholds) -> [u8; 128]
     ensures { λ r. ⌜ r ≡ upTo 16 (passOf isWeak (uvStrength s) (shortAt eight upper s l m)) t ⌝ }
 {
@@ -34,6 +34,7 @@ fn first_normal(t: [u8; 128], s: Four, l: Thresholds, m: Thresholds) -> [u8; 128
     r
 }
 
+// .. at strength 4.
 fn first_strong(t: [u8; 128], s: Four, l: Thresholds, m: Thresholds) -> [u8; 128]
     ensures { λ r. ⌜ r ≡ upTo 16 (passOf isStrong (uvStrength s) (shortAt eight upper s l m)) t ⌝ }
 {
@@ -49,6 +50,7 @@ fn first_strong(t: [u8; 128], s: Four, l: Thresholds, m: Thresholds) -> [u8; 128
     r
 }
 
+// The lines of the second edge, in rows 4 to 7, at strengths 1 to 3.
 fn second_normal(t: [u8; 128], s: Four, l: Thresholds, m: Thresholds) -> [u8; 128]
     ensures { λ r. ⌜ r ≡ upTo 16 (passOf isWeak (uvStrength s) (shortAt eight lower s l m)) t ⌝ }
 {
@@ -65,6 +67,7 @@ fn second_normal(t: [u8; 128], s: Four, l: Thresholds, m: Thresholds) -> [u8; 12
     r
 }
 
+// .. at strength 4.
 fn second_strong(t: [u8; 128], s: Four, l: Thresholds, m: Thresholds) -> [u8; 128]
     ensures { λ r. ⌜ r ≡ upTo 16 (passOf isStrong (uvStrength s) (shortAt eight lower s l m)) t ⌝ }
 {

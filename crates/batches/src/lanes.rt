@@ -93,18 +93,21 @@ fn is_weak(s: u8) -> bool
     (0 < s) & (s < 4)
 }
 
+// Some line has a strength of 1 to 3.
 pub fn any_weak(s: Four) -> bool
     ensures { λ r. ⌜ r ≡ any isWeak s ⌝ }
 {
     is_weak(s.a) | is_weak(s.b) | is_weak(s.c) | is_weak(s.d)
 }
 
+// Some line has a strength of 4.
 pub fn any_strong(s: Four) -> bool
     ensures { λ r. ⌜ r ≡ any isStrong s ⌝ }
 {
     (3 < s.a) | (3 < s.b) | (3 < s.c) | (3 < s.d)
 }
 
+// Every line has the strength 0.
 fn no_strength(s: Four) -> bool
     ensures { λ r. ⌜ r ≡ noStrength s ⌝ }
 {

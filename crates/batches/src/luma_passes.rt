@@ -16,6 +16,7 @@ use crate::lanes::weak_row;
 use lines::planes::luma_normal;
 use lines::planes::luma_strong;
 
+// The lines of strengths 1 to 3.
 fn normal(t: [u8; 128], s: Four, l: Thresholds) -> [u8; 128]
     ensures { λ r. ⌜ r ≡ upTo 16 (passOf isWeak (segmentStrength 4 s) (longAt eight s l)) t ⌝ }
 {
@@ -32,6 +33,7 @@ fn normal(t: [u8; 128], s: Four, l: Thresholds) -> [u8; 128]
     r
 }
 
+// The lines of strength 4.
 fn strong(t: [u8; 128], s: Four, l: Thresholds) -> [u8; 128]
     ensures { λ r. ⌜ r ≡ upTo 16 (passOf isStrong (segmentStrength 4 s) (longAt eight s l)) t ⌝ }
 {

@@ -47,6 +47,7 @@ pub fn macroblock(
     chroma_planes(u, v, on, chroma_at, strengths, base, by_u, by_v);
 }
 
+// Row `row` from left to right.
 fn one_row(
     luma: &mut [u8],
     u: &mut [u8],

@@ -28,6 +28,7 @@ pub struct Window {
     pub stride: usize,
 }
 
+// All that a macroblock is filtered with, but for its strengths.
 pub struct Plan {
     pub on: Switches,
     pub luma: Window,

@@ -291,12 +291,14 @@ const TABLES: [u8; 282] = [
     39,
 ];
 
+// All four, which a public call makes once and lends down.
 pub fn all() -> [u8; 282]
     ensures { λ r. ⌜ r ≡ tables ⌝ }
 {
     TABLES
 }
 
+// One number of them, whatever i is below 282.
 pub fn entry(t: &[u8; 282], i: usize) -> u8
     requires { ⌜ now t ≡ tables ⌝ }
     requires { ⌜ i < 282 ⌝ }
@@ -305,6 +307,7 @@ pub fn entry(t: &[u8; 282], i: usize) -> u8
     t[i]
 }
 
+// alpha' and beta' of an index.
 pub fn alpha_at(t: &[u8; 282], i: usize) -> u8
     requires { ⌜ now t ≡ tables ⌝ }
     requires { ⌜ i < 52 ⌝ }

@@ -1,8 +1,9 @@
-// A picture's size in macroblocks, and the check of it that every call makes first. Whatever speaks of pictures
-// stands on this crate.
+// A picture's size, and the check of it that every call makes first. Whatever speaks of pictures stands on
+// this crate.
 ghost use mathlib.Core.Path.{_≡_};
 ghost use Rattle.sizes.specs.Sizes.{badSize};
 
+// Width and height in macroblocks.
 pub struct Size {
     pub w: usize,
     pub h: usize,

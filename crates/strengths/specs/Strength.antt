@@ -1,7 +1,7 @@
--- The 32 strengths of a macroblock, straight from the grids: ITU-T H.264, clause 8.7.2.1, for progressive
--- frames (the mode `frame`). Byte k is segment k % 4 of edge k / 4 % 4, vertical edges first. Between blocks p
--- and q an edge lies to the left of q or above it. A lone intra macroblock has 0 on edges 0 and 3 on the
--- others; beside an intra one a macroblock has 4 on its left edge (proofs/Examples).
+-- The 32 strengths of a macroblock, straight from the grids: ITU-T H.264, clause 8.7.2.1, for the mode of
+-- progressive frames (`frame`). Byte k is segment k % 4 of edge k / 4 % 4, vertical edges first. Between
+-- blocks p and q an edge lies to the left of q or above it. A lone intra macroblock has 0 on edges 0 and 3 on
+-- the others; beside an intra one a macroblock has 4 on its left edge (proofs/Examples).
 use Prim.Native.Nat.{ℕ, _+_, _-_, _*_, _/_, _%_}
 use mathlib.Core.Bool.{Bool, cond, _&&_, _||_}
 use mathlib.Core.List.{List}

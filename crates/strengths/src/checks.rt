@@ -18,6 +18,7 @@ use crate::walks::own_have;
 use sizes::Size;
 use sizes::bad_size;
 
+// Check 5, by lengths: n blocks.
 fn bad_lengths(
     n: usize,
     inter: usize,

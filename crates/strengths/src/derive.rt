@@ -96,12 +96,14 @@ fn outer_strength(mode: Mode, left: bool, coded: bool, p: Blk, q: Blk) -> u8
     if left { 4 } else { mode.upper }
 }
 
+// By coefficients alone.
 fn coefficients(coded: bool) -> u8
     ensures { λ r. ⌜ r ≡ cond coded 2 0 ⌝ }
 {
     if coded { 2 } else { 0 }
 }
 
+// Across an inner edge: by kind, so that motion is compared only where the kind does not tell.
 fn inner_strength(kind: MbKind, limit: u8, coded: bool, p: Blk, q: Blk) -> u8
     ensures { λ r. ⌜ r ≡ inside kind limit coded p q ⌝ }
 {
@@ -113,6 +115,7 @@ fn inner_strength(kind: MbKind, limit: u8, coded: bool, p: Blk, q: Blk) -> u8
     }
 }
 
+// Across byte k's edge, of which two bools tell what it is.
 fn edge_strength(
     kind: MbKind,
     mode: Mode,
@@ -130,6 +133,7 @@ fn edge_strength(
     inner_strength(kind, mode.limit, coded, p, q)
 }
 
+// The block after byte k's edge, where `at` is the first of the own ones.
 fn q_block(at: usize, w: usize, k: usize) -> usize
     requires { ⌜ at + 12 * w + 3 < 1000000 ⌝ }
     requires { ⌜ k < 32 ⌝ }

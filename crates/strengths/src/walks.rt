@@ -15,6 +15,7 @@ pub enum Sought {
     BelowNone,
 }
 
+// It is at place i of the grid that is looked at.
 fn sought_at(sought: Sought, bytes: &[u8], refs: &[i8], i: usize) -> bool
     requires { ⌜ i < placesOf sought (now bytes) (now refs) ⌝ }
     ensures { λ r. ⌜ r ≡ soughtAt sought (now (bytes .entry)) (now (refs .entry)) i ⌝ }
@@ -25,7 +26,7 @@ fn sought_at(sought: Sought, bytes: &[u8], refs: &[i8], i: usize) -> bool
     }
 }
 
-// It is at one of four places.
+// It is at one of four places. The second bound is for the sums, which do not know what is sought.
 pub fn four_have(sought: Sought, bytes: &[u8], refs: &[i8], at: usize, step: usize) -> bool
     requires { ⌜ at + 3 * step < placesOf sought (now bytes) (now refs) ⌝ }
     requires { ⌜ at + 3 * step < 1000000 ⌝ }
@@ -101,6 +102,7 @@ pub fn beside_have(
     false
 }
 
+// Some of the four beside a macroblock differs from the first of them.
 pub fn beside_differ(go: bool, s: &[u8], at: usize, back: usize, step: usize) -> bool
     requires { ⌜ (go ≡ true → (back ≤ at) × (at - back + 3 * step < length (now s))) ⌝ }
     ensures { λ r. ⌜ r ≡ (go && some 4 (λ k. not (eqb (getD (now (s .entry)) (besideBlock at back step k) 0) (getD (now (s .entry)) (at - back) 0)))) ⌝ }

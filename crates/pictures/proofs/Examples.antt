@@ -1,11 +1,16 @@
 -- Worked examples: the answers of a row call on one grey macroblock. Assumes nothing.
 use mathlib.Core.Path.{_≡_, refl}
+use mathlib.Core.Bool.{_||_}
+use native.Mathlib.Omega.{arith}
+use borrow.Author.Tests.{le-ltb}
 use mathlib.Core.List.{[], _∷_, replicate}
 use Prim.Native.Nat.{ℕ}
-use lib.IntN.{pos}
+use lib.IntN.{pos, negℤ}
+use lib.Signed.{ltZ}
+use Rattle.lines.specs.Depth.{eight}
 use Rattle.laws.specs.Some.{some}
 use Rattle.edges.specs.Picture.{Planes, planes}
-use Rattle.pictures.specs.Checks.{Lent, lent, someBad}
+use Rattle.pictures.specs.Checks.{Lent, lent, badQp, someBad}
 use Rattle.pictures.specs.Rows.{rowAnswer}
 
 -- its strengths and its QP
@@ -28,3 +33,7 @@ grey-refused : (rowAnswer (greyLent 0 30) 0 2 grey ≡ 2)
     × (rowAnswer (greyLent 5 30) 0 1 grey ≡ 9)
 unfolding rowAnswer someBad some
 grey-refused = (refl, refl, refl, refl, refl)
+
+-- ---- a bad QP is one outside the range that the depth sets, -QpBdOffset to 51
+pub bad-qp-range : (qp : ℕ) → (ltZ (pos qp) (negℤ (pos (eight .low))) || ltZ (pos 51) (pos qp)) ≡ badQp qp
+bad-qp-range qp = rw (le-ltb qp 0 (omega arith))

@@ -10,10 +10,8 @@ use crate::lanes::Four;
 use crate::lanes::Thresholds;
 use crate::lanes::is_still;
 use crate::luma_passes::luma_batch;
-use crate::moves::load_cols;
-use crate::moves::load_rows;
-use crate::moves::store_cols;
-use crate::moves::store_rows;
+use crate::moves::load_luma;
+use crate::moves::store_luma;
 use crate::moves::zip;
 
 // The batch of an edge.
@@ -23,9 +21,9 @@ fn take(p: &[u8], at: usize, along: usize, step: usize) -> [u8; 128]
     ensures { λ r. ⌜ r ≡ taken at along step (now (p .entry)) ⌝ }
 {
     if step == 1 {
-        return zip(zip(zip(zip(load_cols(p, at, along)))));
+        return zip(zip(zip(zip(load_luma(p, at, along, 16, 8)))));
     }
-    load_rows(p, at, step)
+    load_luma(p, at, step, 8, 16)
 }
 
 // The plane with the batch t stored.
@@ -35,10 +33,10 @@ fn store(p: &mut [u8], at: usize, along: usize, step: usize, t: [u8; 128])
     ensures { λ _. ⌜ now (p .exit) ≡ stored 0 16 at along step t (now (p .entry)) ⌝ }
 {
     if step == 1 {
-        store_cols(p, at, along, zip(zip(zip(t))));
+        store_luma(p, at, along, 16, 8, zip(zip(zip(t))));
         return;
     }
-    store_rows(p, at, step, t);
+    store_luma(p, at, step, 8, 16, t);
 }
 
 // The lines one after the other, each at the strength of its segment. Where none can change, no sample is

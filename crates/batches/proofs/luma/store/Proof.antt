@@ -16,11 +16,11 @@ returns c =
     let z2 = z3 .before in
     let z1 = z2 .before in
     let e = z3 .zip3 .ensures ∙ ap zipped (z2 .zip2 .ensures ∙ ap zipped (z1 .zip .ensures)) in
-    simp (eq-eqb _ 1 (z1 .before .before .if1 .taken)) (rw e at (w .store-cols .ensures))
+    simp (eq-eqb _ 1 (z1 .before .before .if1 .taken)) (rw e at (w .store-luma .ensures))
 
 returns-2 : tie.Need-returns-2
 unfolding stored
-returns-2 c = let w = c .before .before in simp (ne-eqb _ 1 (w .before .before .if1 .left)) (w .store-rows .ensures)
+returns-2 c = let w = c .before .before in simp (ne-eqb _ 1 (w .before .before .if1 .left)) (w .store-luma2 .ensures)
 
 pub store-spec : {M : Type 1} → statement M
 store-spec =

@@ -16,11 +16,11 @@ returns c =
     let z1 = z2 .before in
     let l = z1 .before in
     simp (eq-eqb _ 1 (l .before .if1 .taken))
-    (c .zip4 .ensures ∙ ap zipped (z3 .zip3 .ensures ∙ ap zipped (z2 .zip2 .ensures ∙ ap zipped (z1 .zip .ensures ∙ ap zipped (l .load-cols .ensures)))))
+    (c .zip4 .ensures ∙ ap zipped (z3 .zip3 .ensures ∙ ap zipped (z2 .zip2 .ensures ∙ ap zipped (z1 .zip .ensures ∙ ap zipped (l .load-luma .ensures)))))
 
 returns-2 : tie.Need-returns-2
 unfolding taken
-returns-2 c = simp (ne-eqb _ 1 (c .before .if1 .left)) (c .load-rows .ensures)
+returns-2 c = simp (ne-eqb _ 1 (c .before .if1 .left)) (c .load-luma2 .ensures)
 
 pub take-spec : {M : Type 1} → statement M
 take-spec =

@@ -12,8 +12,8 @@ use visits::visits::visit;
 pub extern "C" fn deblock_visit(
     w: usize,
     h: usize,
-    mb_x: usize,
-    mb_y: usize,
+    x: usize,
+    y: usize,
     a: i32,
     b: i32,
     chroma: i32,
@@ -25,9 +25,9 @@ pub extern "C" fn deblock_visit(
     t8s: &[u8],
     marks: &mut [u8],
 ) -> u32
-    ensures { λ n. ⌜ VisitOutcome (lent (sizeOf w h) (offsets a b chroma) (now (strengths .entry)) (now (qps .entry)) (now (t8s .entry))) (planes (now (luma .entry)) (now (u .entry)) (now (v .entry)), now (marks .entry)) («mb_x», «mb_y») n (planes (now (luma .exit)) (now (u .exit)) (now (v .exit)), now (marks .exit)) ⌝ }
+    ensures { λ n. ⌜ VisitOutcome (lent (sizeOf w h) (offsets a b chroma) (now (strengths .entry)) (now (qps .entry)) (now (t8s .entry))) (planes (now (luma .entry)) (now (u .entry)) (now (v .entry)), now (marks .entry)) (x, y) n (planes (now (luma .exit)) (now (u .exit)) (now (v .exit)), now (marks .exit)) ⌝ }
 {
     let size = Size { w, h };
     let o = Offsets { a, b, chroma };
-    visit(size, mb_x, mb_y, o, luma, u, v, strengths, qps, t8s, marks)
+    visit(size, x, y, o, luma, u, v, strengths, qps, t8s, marks)
 }

@@ -15,21 +15,22 @@ use Rattle.recordings.specs.Bytes.{zeros, copied, ones}
 use Rattle.recordings.specs.Places.{columnAt, rowAt}
 use Rattle.recordings.specs.declared.orders.Verdicts.{Verdicts}
 use Rattle.recordings.specs.declared.orders.Way.{Way}
-use Rattle.recordings.specs.declared.orders.Way.the-variants.{Whole, Raster, Reverse, Sevens}
+use Rattle.recordings.specs.declared.orders.Way.the-variants.{Whole, Raster, Reverse, Leaps}
 
 -- ---- the ways: the whole-picture call, and visits in three orders
 abbrev pub isWhole : Way → Bool
 isWhole Whole = true
 isWhole Raster = false
 isWhole Reverse = false
-isWhole Sevens = false
+isWhole Leaps = false
 
--- counted up, down from the last of 14400 turns, in steps of seven
+-- counted up, down from the last of 14400 turns, in leaps of 131, a prime above every n: each n turns have
+-- every macroblock once
 abbrev pub countOf : Way → ℕ → ℕ
 countOf Whole t = t
 countOf Raster t = t
 countOf Reverse t = 14399 - t
-countOf Sevens t = 7 * t
+countOf Leaps t = 131 * t
 
 -- the macroblock, of n, that is visited in turn t
 abbrev pub visitedIn : Way → ℕ → ℕ → ℕ
@@ -75,4 +76,4 @@ pub record Judged (d : Lent) (n : ℕ) (before after : Planes) (r : Verdicts) : 
   pub whole : (r .whole ≡ true) ↔ ComesOut Whole d n before after
   pub raster : (r .raster ≡ true) ↔ ComesOut Raster d n before after
   pub reverse : (r .reverse ≡ true) ↔ ComesOut Reverse d n before after
-  pub sevens : (r .sevens ≡ true) ↔ ComesOut Sevens d n before after
+  pub leaps : (r .leaps ≡ true) ↔ ComesOut Leaps d n before after

@@ -107,7 +107,7 @@ fn report(
     verdict(b"picture", d.whole);
     verdict(b"raster order", d.raster);
     verdict(b"reverse order", d.reverse);
-    verdict(b"by sevens", d.sevens);
+    verdict(b"by leaps", d.leaps);
     text(b"\n");
 }
 

@@ -30,12 +30,12 @@ fn turns(n: usize) -> usize
 }
 
 // How a picture is filtered: by the whole-picture call, or by visits in raster order, from the last
-// macroblock to the first, or in steps of seven.
+// macroblock to the first, or in leaps of 131: a prime above 120, so that each pass has every macroblock.
 pub enum Way {
     Whole,
     Raster,
     Reverse,
-    Sevens,
+    Leaps,
 }
 
 fn is_whole(way: Way) -> bool
@@ -45,7 +45,7 @@ fn is_whole(way: Way) -> bool
         Way::Whole => true,
         Way::Raster => false,
         Way::Reverse => false,
-        Way::Sevens => false,
+        Way::Leaps => false,
     }
 }
 
@@ -57,7 +57,7 @@ fn count(way: Way, t: usize) -> usize
         Way::Whole => t,
         Way::Raster => t,
         Way::Reverse => 14399 - t,
-        Way::Sevens => 7 * t,
+        Way::Leaps => 131 * t,
     }
 }
 
@@ -223,7 +223,7 @@ pub struct Verdicts {
     pub whole: bool,
     pub raster: bool,
     pub reverse: bool,
-    pub sevens: bool,
+    pub leaps: bool,
 }
 
 pub fn all(
@@ -259,11 +259,11 @@ pub fn all(
         qps,
         t8s,
     );
-    let sevens = holds(Way::Sevens, size, n, o, luma, u, v, ay, au, av, s, qps, t8s);
+    let leaps = holds(Way::Leaps, size, n, o, luma, u, v, ay, au, av, s, qps, t8s);
     Verdicts {
         whole,
         raster,
         reverse,
-        sevens,
+        leaps,
     }
 }

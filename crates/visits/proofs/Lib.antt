@@ -9,6 +9,16 @@ pub mod Demand3
 pub mod Earliest
 pub mod Fault
 pub mod Instance
+pub mod Late
+pub mod LateAnswer
+pub mod LateArrivals
+pub mod LateChecks
+pub mod LatePlaces
+pub mod LateRun
+pub mod LateStep
+pub mod LateTurn
+pub mod LateUntouched
+pub mod LateWrong
 pub mod Marks
 pub mod Neighbours
 pub mod Old

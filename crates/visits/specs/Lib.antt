@@ -6,6 +6,7 @@ pub mod Checks
 pub mod Fault
 pub mod Inner
 pub mod Instance
+pub mod Late
 pub mod Old
 pub mod Promise
 pub mod Rounds

@@ -1,7 +1,7 @@
 // Replays arrival orders of small pictures, refused visits among them, and prints answers, marks, luma sample
 // 495 ((15, 15) of a picture two wide) and sums of the planes. What it must print (stdout) was written by
-// `judge arrivals`: the Rust original filters each visited macroblock, and document 01's table answers. U and
-// V are filled differently, so that samples of one that end in the other show.
+// `judge arrivals`: the Rust original filters each visited macroblock, and the table of docs/RULES.md,
+// "Answers", answers. U and V are filled differently, so that samples of one that end in the other show.
 ghost use Prim.Native.Nat.{_<_};
 use edges::Offsets;
 use libc::STDOUT_FILENO;

@@ -63,7 +63,7 @@ unfolding zippedHalves upTo
 turned = (refl, refl)
 
 -- ---- two chroma edges of one row, 60 60 | 70 70 and 70 70 | 80 80, of strengths 1 and 2 at QP 30 (P8 of the
--- proved table)
+-- worked cases)
 abbrev pub steps : Plane
 steps = 60 ∷ 60 ∷ 70 ∷ 70 ∷ 70 ∷ 70 ∷ 80 ∷ 80 ∷ []
 

@@ -1,5 +1,5 @@
--- Apart: no promise rests on it. Worked cases of a paper: what the definitions give, and what the paper says.
--- Every crate lists its own; lists of several crates are joined by ++.
+-- Apart: no promise rests on it. Cases of docs/RULES.md, "Worked cases": what the definitions give, and what
+-- was worked out on paper. Every crate lists its own; lists of several crates are joined by ++.
 use Prim.Native.Nat.{ℕ}
 use mathlib.Core.Path.{_≡_}
 use mathlib.Core.List.{List, [], _∷_}
@@ -9,7 +9,7 @@ pub record Case : Type 0 where
   pub given : List ℕ
   pub paper : List ℕ
 
--- each case of the list comes out as the paper says
+-- each case of the list comes out as on paper
 abbrev pub Holds : List Case → Type 0
 Holds [] = Unit {0}
 Holds (c ∷ cs) = (c .given ≡ c .paper) × Holds cs

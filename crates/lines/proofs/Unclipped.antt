@@ -60,7 +60,7 @@ pub inner-lands : (tc0 x2 x1 p0 q0 : ℕ) → Lands x1 ((x2 + (p0 + q0 + 1) / 2)
 unfolding nudgeOf
 inner-lands tc0 x2 x1 p0 q0 = step tc0 (x2 + (p0 + q0 + 1) / 2) x1
 
--- so between samples a Clip1, which document 01 has, changes nothing
+-- so between samples a Clip1, which the Rust original has, changes nothing
 pub inner-clipped : (top tc0 x2 x1 p0 q0 : ℕ) (flat : Bool) → x2 ≤ top → x1 ≤ top → p0 ≤ top → q0 ≤ top
     → innerOf flat tc0 x2 x1 p0 q0 ≡ cond flat (clip1 top (pos x1 +ℤ nudgeOf tc0 x2 x1 p0 q0)) x1
 unfolding innerOf

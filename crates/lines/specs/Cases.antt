@@ -1,5 +1,5 @@
--- Apart: no promise rests on it. P1 to P8 of the proved table, of the definitions: offsets 0, and QP 30
--- unless said, which is index 30 (alpha 25, beta 8, tC0 1, 1, 2).
+-- Apart: no promise rests on it. P1 to P8 of docs/RULES.md, "Worked cases", of the definitions: offsets 0,
+-- and QP 30 unless said, which is index 30 (alpha 25, beta 8, tC0 1, 1, 2).
 use Prim.Native.Nat.{ℕ, _-_}
 use mathlib.Core.List.{List, [], _∷_, _++_}
 use lib.IntN.{ℤ, pos}

@@ -45,7 +45,7 @@ nudgeOf tc0 x2 x1 p0 q0 =
     clip3 (negℤ (pos tc0)) (pos tc0) (shrZ (pos x2 +ℤ shrZ (pos p0 +ℤ pos q0 +ℤ pos 1) 2 -ℤ pos x1 *ℤ pos 2) 2)
 
 -- x'1 = x1 + that where ax < beta, else x1. The standard has no Clip1 here, and none is needed: between
--- samples the sum is a sample, and so what document 01 has, clipped, is the same (laws `inner-lands`,
+-- samples the sum is a sample, and so what the Rust original has, clipped, is the same (laws `inner-lands`,
 -- `inner-clipped`)
 unfoldable pub innerOf : Bool → ℕ → ℕ → ℕ → ℕ → ℕ → ℕ
 innerOf flat tc0 x2 x1 p0 q0 = cond flat (natAbs (pos x1 +ℤ nudgeOf tc0 x2 x1 p0 q0)) x1

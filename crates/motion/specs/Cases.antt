@@ -1,5 +1,5 @@
--- Apart: no promise rests on it. P9, P10 and P11 of document 01: strengths between two inter blocks with no
--- coefficients, at the vertical 3 of frames.
+-- Apart: no promise rests on it. P9, P10 and P11 of docs/RULES.md, "Worked cases": strengths between two
+-- inter blocks with no coefficients, at the vertical 3 of frames.
 use Prim.Native.Nat.{ℕ}
 use mathlib.Core.Bool.{true, false}
 use mathlib.Core.List.{List, [], _∷_, map}

@@ -1,4 +1,4 @@
--- When a difference is far: document 01, "Strengths"; ITU-T H.264, clause 8.7.2.1. Outside 3 are -4 and 4,
+-- When a difference is far: docs/RULES.md, "Strengths"; ITU-T H.264, clause 8.7.2.1. Outside 3 are -4 and 4,
 -- and not -3 and 3.
 use Prim.Native.Nat.{ℕ}
 use mathlib.Core.Bool.{Bool, _||_}

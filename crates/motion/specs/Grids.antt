@@ -1,5 +1,5 @@
--- The grids of a picture's 4x4 blocks, in raster order, and the block at a place of them: document 01, "Sizes
--- and layouts".
+-- The grids of a picture's 4x4 blocks, in raster order, and the block at a place of them: docs/RULES.md,
+-- "Sizes and layouts".
 use Prim.Native.Nat.{ℕ, _+_, _*_}
 use mathlib.Core.Bool.{Bool, not}
 use mathlib.Core.List.{List}
@@ -30,7 +30,7 @@ coded g i = not (eqb (getD (g .nnz) i 0) 0)
 abbrev pub refAt : List ℤ → ℕ → ℤ
 refAt refs i = getD refs i (negsuc 0)
 
--- the picture that a reference names: document 01 compares references as the numbers that are stored
+-- the picture that a reference names: references are compared as the numbers that are stored
 abbrev pub namedBy : ℤ → ℤ
 namedBy r = r
 

@@ -1,6 +1,6 @@
--- When the motion of two inter blocks differs, and the strength between them: document 01, "Strengths"; ITU-T
--- H.264, clause 8.7.2.1. A reference is the number of a picture, whichever list names it; below 0 it is none.
--- P9 to P11 (Cases) are worked examples.
+-- When the motion of two inter blocks differs, and the strength between them: docs/RULES.md, "Strengths";
+-- ITU-T H.264, clause 8.7.2.1. A reference is the number of a picture, whichever list names it; below 0 it is
+-- none. P9 to P11 (Cases) are worked examples.
 use Prim.Native.Nat.{ℕ}
 use mathlib.Core.Bool.{Bool, true, false, not, cond, _&&_, _||_}
 use mathlib.Core.List.{List, [], _∷_, _++_, map, reverse}

@@ -1,5 +1,5 @@
-// Prints P1 to P11 of the proved table of the rules' document as the code computes them. What it must print
-// (stdout) is written by hand from that document.
+// Prints P1 to P11 of docs/RULES.md, "Worked cases", as the code computes them. What it must print (stdout)
+// is written by hand from that section.
 use libc::STDOUT_FILENO;
 use lines::limits;
 use lines::limits::Limits;

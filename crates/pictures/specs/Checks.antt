@@ -1,5 +1,5 @@
--- What every filtering call checks, in the order of its checks: document 01, "Numbers a call returns". A call
--- is lent three planes, strengths, QPs, 8x8 flags; n is the number of macroblocks.
+-- What every filtering call checks, in the order of its checks: docs/RULES.md, "Answers". A call is lent
+-- three planes, strengths, QPs, 8x8 flags; n is the number of macroblocks.
 use Prim.Native.Nat.{ℕ, _+_, _-_, _*_}
 use mathlib.Core.Bool.{Bool, not, _&&_, _||_}
 use mathlib.Core.List.{List, [], _∷_, _++_}

@@ -1,4 +1,4 @@
--- Checks 1 and 2, each as whether it applies: document 01, "Sizes and layouts" and "Numbers a call returns".
+-- Checks 1 and 2, each as whether it applies: docs/RULES.md, "Sizes and layouts" and "Answers".
 use Prim.Native.Nat.{ℕ, _*_}
 use mathlib.Core.Bool.{Bool, _||_}
 use lib.Dec.{eqb, ltb, leb}

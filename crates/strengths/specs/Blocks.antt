@@ -1,5 +1,5 @@
 -- The 4x4 blocks that the strengths of macroblock (x, y) read, as indices into grids with rows of 4 * w
--- blocks: document 01, "Sizes and layouts" and "Numbers a call returns". They are its own 16, four to the
+-- blocks: docs/RULES.md, "Sizes and layouts" and "What each call reads". They are its own 16, four to the
 -- left where x > 0, four above where y > 0: the blocks beside an edge in ITU-T H.264, clause 8.7.2.1.
 use Prim.Native.Nat.{ℕ, _+_, _-_, _*_}
 use mathlib.Core.Bool.{Bool, _&&_, _||_}

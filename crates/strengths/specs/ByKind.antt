@@ -1,5 +1,5 @@
--- Apart: no promise to a caller of the public calls rests on it. How the code goes about it (document 01,
--- "Strengths"): what the own blocks show, the kind that follows, and the strengths by that kind, without
+-- Apart: no promise to a caller of the public calls rests on it. How the code goes about docs/RULES.md,
+-- "Strengths": what the own blocks show, the kind that follows, and the strengths by that kind, without
 -- comparing motion where the kind tells. That they are `strengthAt` is the law `kind-is`.
 use Prim.Native.Nat.{ℕ}
 use mathlib.Core.Bool.{Bool, true, cond, not, _&&_, _||_}

@@ -1,6 +1,6 @@
 -- What the three strength calls promise: one answer and one final content of the strengths grid, for every
--- input. The grids are only read. Document 01, "Numbers a call returns" and "What the promises have to say";
--- the strengths are those of ITU-T H.264, clause 8.7.2.1 (`strengthAt`).
+-- input. The grids are only read. The numbers are those of docs/RULES.md, "Answers", the strengths those of
+-- ITU-T H.264, clause 8.7.2.1 (`strengthAt`).
 use Prim.Native.Nat.{ℕ, _+_, _*_}
 use mathlib.Core.Path.{_≡_}
 use mathlib.Core.Bool.{Bool, false, cond, not, _&&_, _||_}

@@ -1,4 +1,4 @@
--- The checks of a strength call, each as whether it applies: document 01, "Numbers a call returns".
+-- The checks of a strength call, each as whether it applies: docs/RULES.md, "Answers".
 use Prim.Native.Nat.{ℕ, _-_, _*_}
 use mathlib.Core.Bool.{Bool, not, _&&_, _||_}
 use mathlib.Core.List.{List}

@@ -1,4 +1,4 @@
--- What a kind or a flag says of a macroblock's own blocks: document 01, "Strengths" (same motion, uniform,
+-- What a kind or a flag says of a macroblock's own blocks: docs/RULES.md, "Strengths" (same motion, uniform,
 -- flat, kinds).
 use Prim.Native.Nat.{ℕ}
 use mathlib.Core.Bool.{Bool, not, _&&_}

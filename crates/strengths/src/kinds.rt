@@ -9,7 +9,7 @@ pub struct Mode {
     pub upper: u8,
 }
 
-// What all 16 blocks of a macroblock have in common: document 01, "Strengths".
+// What all 16 blocks of a macroblock have in common: docs/RULES.md, "Strengths".
 pub enum MbKind {
     Intra,
     Skip,

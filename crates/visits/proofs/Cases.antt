@@ -1,5 +1,5 @@
--- The twelve cases of the proved table hold of the definitions, as one statement. P1 to P11 are computed, in
--- the crates of their definitions; P12 goes through the checks of a real visit. Assumes nothing.
+-- The twelve cases of docs/RULES.md, "Worked cases", hold of the definitions, as one statement. P1 to P11 are
+-- computed, in the crates of their definitions; P12 goes through the checks of a real visit. Assumes nothing.
 use mathlib.Core.Path.{_≡_, refl}
 use mathlib.Core.List.{List, [], _∷_, _++_, map}
 use Prim.Native.Nat.{ℕ, _<_}

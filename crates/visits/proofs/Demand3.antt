@@ -1,5 +1,5 @@
--- Demand 3, of the visit that the code makes: the filter is that of demand 2, the checks are document 01's.
--- `AnyOrder` has its sentences one by one. Assumes nothing.
+-- Demand 3, of the visit that the code makes: the filter is that of demand 2, the checks are those of
+-- docs/RULES.md, "Answers". `AnyOrder` has its sentences one by one. Assumes nothing.
 use mathlib.Core.Path.{_≡_, refl, sym, ap, _∙_}
 use mathlib.Core.Logic.{_⊎_}
 use mathlib.Core.List.{List, [], _∷_, map}

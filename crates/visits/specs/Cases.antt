@@ -1,5 +1,5 @@
--- Apart: no promise rests on it. P12 of the proved table, of the visit with the real filter and checks, on
--- the picture of Fault.antt and on its left column; and the whole table, joined.
+-- Apart: no promise rests on it. P12 of docs/RULES.md, "Worked cases", of the visit with the real filter and
+-- checks, on the picture of Fault.antt and on its left column; and all twelve cases, joined.
 use Prim.Native.Nat.{ℕ}
 use mathlib.Core.List.{List, [], _∷_, _++_}
 use lib.IntN.{pos}
@@ -32,6 +32,6 @@ asked d p = answers (visitOf d) ((0, 0) ∷ (0, 1) ∷ []) (unvisited d p)
 unfoldable pub visitCases : List Case
 visitCases = record { number = 12; given = asked faultLent squarePlanes ++ asked columnLent columnPlanes; paper = 0 ∷ 14 ∷ 0 ∷ 0 ∷ [] } ∷ []
 
--- document 01, "The proved table": P1 to P8, P9 to P11, P12
+-- P1 to P8, P9 to P11, P12
 abbrev pub twelve : List Case
 twelve = lines.lineCases ++ motion.motionCases ++ visitCases

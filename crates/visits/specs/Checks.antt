@@ -1,6 +1,6 @@
--- The checks of a visit before 13: document 01, "Numbers a call returns". They are those of every filtering
--- call. A visit reads strengths and flag of its macroblock, QPs of it and of its left and upper neighbours,
--- and its own, the left, the upper and the upper right mark.
+-- The checks of a visit before 13: docs/RULES.md, "Answers" and "What each call reads". They are those of
+-- every filtering call. A visit reads strengths and flag of its macroblock, QPs of it and of its left and
+-- upper neighbours, and its own, the left, the upper and the upper right mark.
 use Prim.Native.Nat.{ℕ, _+_, _-_, _*_}
 use mathlib.Core.Path.{_≡_}
 use mathlib.Core.Bool.{Bool, false, not, _&&_, _||_}

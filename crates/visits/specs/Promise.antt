@@ -1,5 +1,5 @@
--- What the calls of this crate promise: a visit, and requests replayed one after the other. Document 01,
--- "Numbers a call returns" and "What the promises have to say"; demands 1 to 3.
+-- What the calls of this crate promise: a visit, and requests replayed one after the other. The numbers are
+-- those of docs/RULES.md, "Answers"; demands 1 to 3.
 use Prim.Native.Nat.{ℕ}
 use mathlib.Core.Path.{_≡_}
 use mathlib.Core.Bool.{Bool, cond, not, _||_}
@@ -11,7 +11,7 @@ use Rattle.visits.specs.Visit.{At, State, Call, VisitOutcomeOf, fresh, v
 use Rattle.pictures.specs.Checks.{Lent, heldOf}
 use Rattle.visits.specs.Checks.{earlyOf}
 
--- the visit of the theory, with the filter of demand 2 and the checks of document 01
+-- the visit of the theory, with the filter of demand 2 and the checks of every filtering call
 abbrev pub visitOf : Lent → Call ℕ Planes
 visitOf d = visit (d .size .w) (stepOf (heldOf d)) (earlyOf d)
 

@@ -1,5 +1,5 @@
--- Visits of macroblocks: document 01, "Numbers a call returns". W is the picture's width in macroblocks, S
--- any state of the planes, `step i` filters macroblock i.
+-- Visits of macroblocks: docs/RULES.md, "Visits", and 13 and 14 of its "Answers". W is the picture's width in
+-- macroblocks, S any state of the planes, `step i` filters macroblock i.
 use Prim.Native.Nat.{ℕ, _+_, _-_, _*_}
 use mathlib.Core.Path.{_≡_}
 use mathlib.Core.Bool.{Bool, cond, not, _&&_, _||_}

@@ -1,63 +1,71 @@
-/* A picture of 2 by 1 macroblocks: strengths from its grids, visits in the order of arrival, and the same by
- * the whole-picture call. */
+/* Strengths from the grids, visits in the order of arrival, and the same by the whole-picture call. */
 #include <stdio.h>
-#include <string.h>
 
-#include "../include/deblock.h"
+#include "station.h"
 
-enum { W = 2, H = 1, N = W * H };
-
-/* 4x4 grids: both macroblocks intra, so no reference and no motion; list 1 is not used. */
-static uint8_t inter[16 * N], nnz[16 * N];
-static int8_t ref0[16 * N];
-static int16_t mv0[32 * N];
-
-static uint8_t strengths[32 * N], marks[N];
-static const uint8_t qps[N] = {30, 34};
-static uint8_t luma[256 * N], u[64 * N], v[64 * N];
-static uint8_t luma2[256 * N], u2[64 * N], v2[64 * N];
-
-/* A pointer must not be null even where its length is 0. */
-static const uint8_t none[1];
-static const int8_t no_refs[1];
-static const int16_t no_motion[1];
-
-static void visit(size_t x)
+/* Derives the strengths of macroblock i and prints the first of its left, upper and inner edges. */
+static void derive(const struct deblock_picture *p, const struct deblock_grids *g, size_t i)
 {
-    uint32_t n = deblock_visit(W, H, x, 0, 0, 0, 0, luma, sizeof luma, u, sizeof u, v, sizeof v,
-                               strengths, sizeof strengths, qps, sizeof qps, none, 0, marks, sizeof marks);
-    printf("visit of (%u, 0): %u\n", (unsigned)x, (unsigned)n);
+    uint32_t answer = deblock_picture_strengths(p, g, i % W, i / W, 0);
+    const uint8_t *own = p->strengths + 32 * i;
+    printf("strengths of (%zu, %zu): %s; left edge %u, upper edge %u, inner edges %u\n", i % W, i / W,
+           deblock_answer_text(answer), own[0], own[16], own[4]);
+}
+
+static uint8_t waiting[N];
+
+/* Visits macroblock i if it has arrived and waits. It goes on waiting until it is done: at 14 for a
+ * neighbour, at another number for whoever mends what is lent. */
+static void visit_if_waiting(const struct deblock_picture *p, size_t i)
+{
+    if (!waiting[i])
+        return;
+    uint32_t answer = deblock_picture_visit(p, i % W, i / W);
+    waiting[i] = answer != DEBLOCK_DONE && answer != DEBLOCK_MARKED_ALREADY;
+    printf("visit of (%zu, %zu): %u, %s\n", i % W, i / W, (unsigned)answer, deblock_answer_text(answer));
+}
+
+/* Macroblock i has arrived. One pass in raster order makes all visits that can be made: what a visit
+ * makes ready comes later in raster order. */
+static void arrive(const struct deblock_picture *p, size_t i)
+{
+    waiting[i] = 1;
+    for (size_t j = 0; j < N; j++)
+        visit_if_waiting(p, j);
+}
+
+/* Prints luma of column 15: four samples above the edge at row 16, and four below. By hand, at QP 40 and
+ * strength 1, where tc0 is 4: the visit of (1, 0) moves 100 | 103 by (4 * 3 - 3 + 4) >> 3 = 1, so that column
+ * 15 holds 101; then that of (0, 1) moves 101 | 105 by (4 * 4 - 4 + 4) >> 3 = 2, and the samples next to them
+ * by 1. The old release, which did not wait for (1, 0), had 102 in row 15. */
+static void print_column(void)
+{
+    printf("column 15 across row 16:");
+    for (size_t row = 12; row < 20; row++)
+        printf("%s%u", row == 16 ? " | " : " ", luma[16 * W * row + 15]);
+    printf("\n");
 }
 
 int main(void)
 {
-    memset(ref0, -1, sizeof ref0);
-    for (size_t x = 0; x < W; x++) {
-        uint32_t n = deblock_strengths(W, H, x, 0, 0, inter, sizeof inter, nnz, sizeof nnz,
-                                       ref0, sizeof ref0, mv0, 32 * N, no_refs, 0, no_motion, 0,
-                                       strengths, sizeof strengths);
-        printf("strengths of (%u, 0): %u, left edge %u, inner edges %u\n", (unsigned)x, (unsigned)n,
-               (unsigned)strengths[32 * x], (unsigned)strengths[32 * x + 4]);
-    }
-    for (size_t i = 0; i < sizeof luma; i++)
-        luma[i] = i % 32 < 16 ? 60 : 70;
-    memset(u, 128, sizeof u);
-    memset(v, 128, sizeof v);
-    memcpy(luma2, luma, sizeof luma);
-    memcpy(u2, u, sizeof u);
-    memcpy(v2, v, sizeof v);
+    decode();
+    struct deblock_picture p = lend_picture();
+    struct deblock_grids g = lend_grids();
+    for (size_t i = 0; i < N; i++)
+        derive(&p, &g, i);
 
-    visit(1); /* not ready: its left neighbour is unmarked */
-    visit(0);
-    visit(1);
-    visit(1); /* marked already */
-    visit(2); /* outside */
+    arrive(&p, 0);
+    arrive(&p, 2); /* (0, 1) waits for its upper right neighbour, (1, 0) */
+    arrive(&p, 1);
+    arrive(&p, 3);
+    arrive(&p, 3); /* once more: refused */
+    print_column();
 
-    uint32_t n = deblock_frame(W, H, 0, 0, 0, luma2, sizeof luma2, u2, sizeof u2, v2, sizeof v2,
-                               strengths, sizeof strengths, qps, sizeof qps, none, 0);
-    int other = memcmp(luma, luma2, sizeof luma) || memcmp(u, u2, sizeof u) || memcmp(v, v2, sizeof v);
-    printf("whole picture: %u, %s\n", (unsigned)n, other ? "other planes" : "the same planes");
-    printf("the first row beside the edge: %u %u %u %u | %u %u %u %u\n", luma[12], luma[13], luma[14],
-           luma[15], luma[16], luma[17], luma[18], luma[19]);
+    uint8_t by_visits[sizeof planes];
+    memcpy(by_visits, planes, sizeof planes);
+    decode();
+    uint32_t answer = deblock_picture_frame(&p);
+    printf("whole picture: %s, %s planes\n", deblock_answer_text(answer),
+           memcmp(by_visits, planes, sizeof planes) == 0 ? "the same" : "other");
     return 0;
 }

@@ -1,49 +1,48 @@
-/* The deblocking filter's C interface (C99, x86-64 Linux). Link target/staticlib/libdeblock.a, which
- * `rt staticlib deblock` makes.
+/* The deblocking filter's C interface: C99 and later, C++17. docs/RULES.md states the rules that it keeps;
+ * docs/GUIDE.md, "From C", says how it is used and linked.
  *
- * Every call answers one number, below, and is proved to do what the contract in crates/deblock/src says for
- * every content of the memory lent. A number other than 0 is a refusal, and a refusal changes no byte of what
- * was lent.
+ * The archive has six flat calls. Each is proved to do what its contract in crates/deblock/src says, for
+ * every content of the memory lent. At the end of this file are six functions over structs, which hand the
+ * structs' members on to the flat calls: start there. They are compiled with the caller and are not proved;
+ * examples/tests looks at every argument that they hand on.
+ *
+ * Every call answers a number of enum deblock_answer. A number other than 0 is a refusal, and a refusal
+ * changes no byte of what was lent.
  *
  * What a caller must keep, since C cannot say it and no call can test it:
  *   - each pointer is valid for the number of elements that follows it, to read, and to write where the
  *     pointer is not const;
  *   - no buffer that a call writes overlaps any other buffer of that call;
- *   - no pointer is null, even where the length is 0, and int16_t pointers are aligned;
+ *   - no pointer is null, even where the length is 0 (in the structs it may be), and int16_t pointers are
+ *     aligned;
  *   - nothing else writes the memory lent, or reads what the call writes, until the call returns.
  * A length is a number of elements, not of bytes; it stands right after its pointer.
+ *
+ * What integrators ask first:
+ *   - Calls are re-entrant. None allocates, waits, or keeps a pointer after it has returned.
+ *   - The archive has no variables and needs no library, libc included: `nm -u` names no symbol.
+ *   - Threads: calls on different pictures may be made at the same time. Two calls that share a buffer which
+ *     either of them writes may not: no two visits of one picture, no two strength calls that are lent the
+ *     same strengths, no filtering while its strengths are written. Buffers that are only read may be shared.
+ *   - Stack: bytes that a call touched, measured by target/host/release/stack, on x86-64 and on Arm: frame
+ *     1912 and 1264, rows 1928 and 1280, visit 1696 and 1120, strengths 936 and 784, with flags 952 and 800,
+ *     with a kind 1032 and 832 (docs/SPEED.md, "Stack", says how). A function over structs takes at most 160
+ *     more at -O2, 720 at -O0 (clang 14 on both, gcc 12 on Arm: -fstack-usage).
  *
  * Sizes. A picture is w by h macroblocks, 1 <= w <= 256, 1 <= h <= 256, w * h <= 36864. Macroblock (x, y) has
  * index y * w + x. With n = w * h the lengths are:
  *   luma               256 * n   16 * w samples a row
  *   u, v                64 * n   chroma, 8 * w samples a row
- *   strengths           32 * n   0 to 4: for each macroblock 16 of vertical edges (4 an edge, edge 0 first),
- *                                then 16 of horizontal ones
+ *   strengths           32 * n   0 to 4: for each macroblock 16 of vertical edges (edge 0 first, 4 an edge,
+ *                                from top to bottom), then 16 of horizontal ones (from left to right)
  *   qps                      n   0 to 51
  *   t8s                 n or 0   1 where the transform is 8x8, else 0; length 0 means that none is
  *   marks                    n   1 where visited, else 0; all 0 at the start of a picture
- *   inter, nnz, ref0    16 * n   per 4x4 block, 4 * w blocks a row: 1 if inter, else 0; coefficient count;
- *                                reference, -1 where unused
+ *   inter, nnz, ref0    16 * n   per 4x4 block, 4 * w blocks a row: 1 if inter, else 0; count of luma
+ *                                coefficients; reference, -1 where unused, as in intra blocks
  *   mv0                 32 * n   per 4x4 block its vector's x, then y
  *   ref1, mv1           16 * n and 32 * n, or both 0: list 1
- *
- * Answers. Checks are made in this order, each call making those whose data it takes; the first that applies
- * is the answer.
- *    0  done
- *    1  w, h or their product is outside its range
- *    2  macroblock outside the picture, or rows without first <= last <= h
- *    3  a plane has the wrong length
- *    4  a per-macroblock grid (strengths, qps, t8s, marks) has the wrong length
- *    5  a 4x4 grid has the wrong length, or just one grid of list 1 is empty
- *    6  an offset is outside -12..12
- *    7  an inter byte, 8x8 flag or mark that is read is above 1
- *    8  a QP that is read is above 51
- *    9  a strength that is read is above 4
- *   10  a reference that is read is below -1
- *   11  the 16 blocks, the 4 read to the left or the 4 read above disagree on inter
- *   12  the kind, or a flat or uniform flag that is set, is not true of the grids
- *   13  the macroblock is marked already
- *   14  its left, upper or upper right neighbour exists and is unmarked
+ * The offsets a, b and chroma are FilterOffsetA, FilterOffsetB and chroma_qp_index_offset, each -12 to 12.
  */
 #ifndef DEBLOCK_H
 #define DEBLOCK_H
@@ -51,19 +50,82 @@
 #include <stddef.h>
 #include <stdint.h>
 
+#define DEBLOCK_VERSION_MAJOR 0
+#define DEBLOCK_VERSION_MINOR 2
+#define DEBLOCK_VERSION_PATCH 0
+#define DEBLOCK_VERSION "0.2.0"
+
+/* What a call answers. Checks are made in this order, each call making those whose data it takes; the first
+ * that applies is the answer. */
+enum deblock_answer {
+    DEBLOCK_DONE = 0,
+    DEBLOCK_BAD_SIZE = 1,               /* w, h or their product is outside its range */
+    DEBLOCK_OUTSIDE = 2,                /* macroblock outside the picture, or not first <= last <= h */
+    DEBLOCK_PLANE_LENGTH = 3,           /* a plane has the wrong length */
+    DEBLOCK_MACROBLOCK_GRID_LENGTH = 4, /* strengths, qps, t8s or marks have the wrong length */
+    DEBLOCK_BLOCK_GRID_LENGTH = 5,      /* a 4x4 grid has the wrong length, or just one of list 1 is empty */
+    DEBLOCK_BAD_OFFSET = 6,             /* an offset is outside -12..12 */
+    DEBLOCK_NOT_A_BOOL = 7,             /* an inter byte, 8x8 flag or mark that is read is above 1 */
+    DEBLOCK_BAD_QP = 8,                 /* a QP that is read is above 51 */
+    DEBLOCK_BAD_STRENGTH = 9,           /* a strength that is read is above 4 */
+    DEBLOCK_BAD_REFERENCE = 10,         /* a reference that is read is below -1 */
+    DEBLOCK_MIXED_INTER = 11,           /* the 16 blocks, the 4 to the left or the 4 above differ in inter */
+    DEBLOCK_UNTRUE = 12,                /* the kind, or a flag that is set, is not true of the grids */
+    DEBLOCK_MARKED_ALREADY = 13,        /* the macroblock is marked */
+    DEBLOCK_NOT_READY = 14              /* its left, upper or upper right neighbour exists and is unmarked */
+};
+
+/* A sentence for an answer. */
+static inline const char *deblock_answer_text(uint32_t answer)
+{
+    static const char *const texts[] = {
+        "done",
+        "width, height or their product is out of range",
+        "the macroblock is outside the picture, or the rows are not first <= last <= h",
+        "luma, U or V has the wrong length",
+        "strengths, QPs, 8x8 flags or marks have the wrong length",
+        "a 4x4 grid has the wrong length, or just one list 1 grid is empty",
+        "an offset is not within -12 to 12",
+        "an inter byte, 8x8 flag or mark is not 0 or 1",
+        "a QP is above 51",
+        "a strength is above 4",
+        "a reference number is below -1",
+        "the 16 blocks, the 4 to the left or the 4 above disagree on inter",
+        "the kind or a set flag is not true of the grids",
+        "the macroblock was visited before",
+        "its left, upper or upper right neighbour is not visited yet",
+    };
+    return answer < sizeof texts / sizeof *texts ? texts[answer] : "no answer of this version";
+}
+
+/* What the caller knows of a macroblock: a kind, or flags to be joined by |. */
+enum deblock_kind {
+    DEBLOCK_INTRA = 0,         /* all 16 blocks are intra */
+    DEBLOCK_SKIP = 1,          /* flat, as below */
+    DEBLOCK_INTER_UNIFORM = 2, /* uniform, as below */
+    DEBLOCK_INTER = 3          /* all 16 blocks are inter */
+};
+enum deblock_flag {
+    DEBLOCK_FLAT = 1,    /* uniform, and all 16 counts are 0 */
+    DEBLOCK_UNIFORM = 2, /* all 16 blocks are inter with equal references and vectors */
+    DEBLOCK_T8 = 4       /* the transform is 8x8 */
+};
+
 #ifdef __cplusplus
 extern "C" {
 #endif
 
-/* Filters a whole picture. a and b are FilterOffsetA and FilterOffsetB, chroma is chroma_qp_index_offset;
- * each from -12 to 12. Writes luma, u, v. Answers 0, 1, 3, 4, 6, 7, 8, 9. */
+/* Filters a whole picture. It neither reads nor sets marks, and called again it filters again.
+ * Writes luma, u, v. Answers 0, 1, 3, 4, 6, 7, 8, 9. */
 uint32_t deblock_frame(size_t w, size_t h, int32_t a, int32_t b, int32_t chroma,
                        uint8_t *luma, size_t luma_len, uint8_t *u, size_t u_len, uint8_t *v, size_t v_len,
                        const uint8_t *strengths, size_t strengths_len,
                        const uint8_t *qps, size_t qps_len, const uint8_t *t8s, size_t t8s_len);
 
-/* Filters rows first to last - 1. It reads strengths, flags and QPs of those rows, and the QPs of row
- * first - 1 where 0 < first < last. An empty range that passes checks 1 to 6 does nothing and answers 0.
+/* Filters rows first to last - 1. Each row is filtered once, from the top; that gives the planes of
+ * deblock_frame, and another order may not. No mark is read or set. It reads strengths, flags and QPs of
+ * those rows, and the QPs of row first - 1 where 0 < first < last. An empty range that passes checks 1 to 6
+ * does nothing and answers 0.
  * Writes luma, u, v. Answers 0, 1, 2, 3, 4, 6, 7, 8, 9. */
 uint32_t deblock_rows(size_t w, size_t h, size_t first, size_t last, int32_t a, int32_t b, int32_t chroma,
                       uint8_t *luma, size_t luma_len, uint8_t *u, size_t u_len, uint8_t *v, size_t v_len,
@@ -71,8 +133,10 @@ uint32_t deblock_rows(size_t w, size_t h, size_t first, size_t last, int32_t a, 
                       const uint8_t *qps, size_t qps_len, const uint8_t *t8s, size_t t8s_len);
 
 /* Filters macroblock (x, y) and sets its mark, once its left, upper and upper right neighbours are marked. It
- * reads strengths and flag of the macroblock, QPs of it and of its left and upper neighbours, and the marks
- * of it and of its left, upper and upper right neighbours.
+ * reads strengths and flag of the macroblock, QPs of it and of its left and upper neighbours, the marks of it
+ * and of its left, upper and upper right neighbours, and samples of it and of its left and upper neighbours.
+ * So what belongs to a macroblock may be written until its own visit, and not after it; before, let its QP be
+ * a legal one. It may be shown once it, its right and its lower neighbour, as far as they exist, are marked.
  * Writes luma, u, v, marks. Answers 0, 1, 2, 3, 4, 6, 7, 8, 9, 13, 14. */
 uint32_t deblock_visit(size_t w, size_t h, size_t x, size_t y, int32_t a, int32_t b, int32_t chroma,
                        uint8_t *luma, size_t luma_len, uint8_t *u, size_t u_len, uint8_t *v, size_t v_len,
@@ -81,8 +145,9 @@ uint32_t deblock_visit(size_t w, size_t h, size_t x, size_t y, int32_t a, int32_
                        uint8_t *marks, size_t marks_len);
 
 /* The three strength calls read the 16 blocks of macroblock (x, y), four to the left where x > 0 and four
- * above where y > 0, and write the 32 strengths of the macroblock and no others. Where it answers 0 a call
- * with true flags writes what deblock_strengths writes, and one with a true kind what it writes at t8 = 0. */
+ * above where y > 0, and write the 32 strengths of the macroblock and no others. These blocks have to be
+ * there: a call cannot tell one that has not arrived. Where it answers 0 a call with true flags writes what
+ * deblock_strengths writes, and one with a true kind what it writes at t8 = 0. */
 
 /* Strengths of a macroblock of which nothing is known but its transform: t8 other than 0 means 8x8.
  * Writes strengths. Answers 0, 1, 2, 4, 5, 7, 10, 11. */
@@ -92,8 +157,7 @@ uint32_t deblock_strengths(size_t w, size_t h, size_t x, size_t y, uint8_t t8,
                            const int8_t *ref1, size_t ref1_len, const int16_t *mv1, size_t mv1_len,
                            uint8_t *strengths, size_t strengths_len);
 
-/* The same with flags, each set by any number but 0. uniform: all 16 blocks are inter with equal references
- * and vectors. flat: uniform, and all 16 counts are 0. A flag may be left unset where it is true.
+/* The same with flags, each set by any number but 0. flat and uniform may be left unset where they are true.
  * Writes strengths. Answers 0, 1, 2, 4, 5, 7, 10, 11, 12. */
 uint32_t deblock_strengths_flags(size_t w, size_t h, size_t x, size_t y,
                                  uint8_t flat, uint8_t uniform, uint8_t t8,
@@ -102,9 +166,8 @@ uint32_t deblock_strengths_flags(size_t w, size_t h, size_t x, size_t y,
                                  const int8_t *ref1, size_t ref1_len, const int16_t *mv1, size_t mv1_len,
                                  uint8_t *strengths, size_t strengths_len);
 
-/* The same with a kind; the transform counts as 4x4. 0 Intra: all 16 blocks are intra. 1 Skip: flat.
- * 2 InterUniform: uniform. 3 Inter: all 16 blocks are inter. Any other number is a kind that is true of no
- * grids. Writes strengths. Answers 0, 1, 2, 4, 5, 7, 10, 11, 12. */
+/* The same with a kind, a number of enum deblock_kind; the transform counts as 4x4. Any other number is a
+ * kind that is true of no grids. Writes strengths. Answers 0, 1, 2, 4, 5, 7, 10, 11, 12. */
 uint32_t deblock_strengths_kind(size_t w, size_t h, size_t x, size_t y, uint8_t kind,
                                 const uint8_t *inter, size_t inter_len, const uint8_t *nnz, size_t nnz_len,
                                 const int8_t *ref0, size_t ref0_len, const int16_t *mv0, size_t mv0_len,
@@ -114,5 +177,137 @@ uint32_t deblock_strengths_kind(size_t w, size_t h, size_t x, size_t y, uint8_t 
 #ifdef __cplusplus
 }
 #endif
+
+/* The same calls over structs. Start a struct in static storage or as in `struct deblock_picture p =
+ * DEBLOCK_NONE;`, and set its members by name. Members that a later version adds are then 0, which will mean
+ * what this version does. How the structs are laid out is no part of the archive.
+ *
+ * A null pointer of length 0 means not lent. A null pointer with another length counts as a wrong length,
+ * also where length 0 would do: a call that takes it answers 3, 4 or 5, unless an earlier check applies. */
+#ifdef __cplusplus
+#define DEBLOCK_NONE {}
+#else
+#define DEBLOCK_NONE {0}
+#endif
+
+/* What stays the same throughout a picture, with its marks. */
+struct deblock_picture {
+    size_t w, h;
+    int32_t offset_a, offset_b, offset_chroma;
+    uint8_t *luma; size_t luma_len;
+    uint8_t *u; size_t u_len;
+    uint8_t *v; size_t v_len;
+    uint8_t *strengths; size_t strengths_len; /* strength calls write them, filtering reads them */
+    const uint8_t *qps; size_t qps_len;
+    const uint8_t *t8s; size_t t8s_len;
+    uint8_t *marks; size_t marks_len; /* for visits alone */
+};
+
+/* The 4x4 grids, for strength calls alone. */
+struct deblock_grids {
+    const uint8_t *inter; size_t inter_len;
+    const uint8_t *nnz; size_t nnz_len;
+    const int8_t *ref0; size_t ref0_len;
+    const int16_t *mv0; size_t mv0_len;
+    const int8_t *ref1; size_t ref1_len;
+    const int16_t *mv1; size_t mv1_len;
+};
+
+/* For the functions below: a picture as a flat call may be lent it. Where a pointer is null it gets a byte
+ * that nobody reads or writes, of length 0. Flags without a pointer but with a length must be refused with 4,
+ * so the QPs go with them. */
+static inline struct deblock_picture deblock_picture_lent(struct deblock_picture p)
+{
+    static uint8_t none[1];
+    if (!p.t8s && p.t8s_len) { p.qps = NULL; }
+    if (!p.luma) { p.luma = none; p.luma_len = 0; }
+    if (!p.u) { p.u = none; p.u_len = 0; }
+    if (!p.v) { p.v = none; p.v_len = 0; }
+    if (!p.strengths) { p.strengths = none; p.strengths_len = 0; }
+    if (!p.qps) { p.qps = none; p.qps_len = 0; }
+    if (!p.t8s) { p.t8s = none; p.t8s_len = 0; }
+    if (!p.marks) { p.marks = none; p.marks_len = 0; }
+    return p;
+}
+
+/* The same for grids. One of list 1 without a pointer but with a length must be refused with 5, so the inter
+ * bytes go with it. */
+static inline struct deblock_grids deblock_grids_lent(struct deblock_grids g)
+{
+    static const uint8_t no_bytes[1] = {0};
+    static const int8_t no_references[1] = {0};
+    static const int16_t no_motion[1] = {0};
+    if ((!g.ref1 && g.ref1_len) || (!g.mv1 && g.mv1_len)) { g.inter = NULL; }
+    if (!g.inter) { g.inter = no_bytes; g.inter_len = 0; }
+    if (!g.nnz) { g.nnz = no_bytes; g.nnz_len = 0; }
+    if (!g.ref0) { g.ref0 = no_references; g.ref0_len = 0; }
+    if (!g.mv0) { g.mv0 = no_motion; g.mv0_len = 0; }
+    if (!g.ref1) { g.ref1 = no_references; g.ref1_len = 0; }
+    if (!g.mv1) { g.mv1 = no_motion; g.mv1_len = 0; }
+    return g;
+}
+
+/* Each of these does what the flat call of its name does. */
+static inline uint32_t deblock_picture_frame(const struct deblock_picture *picture)
+{
+    const struct deblock_picture p = deblock_picture_lent(*picture);
+    return deblock_frame(p.w, p.h, p.offset_a, p.offset_b, p.offset_chroma,
+                         p.luma, p.luma_len, p.u, p.u_len, p.v, p.v_len,
+                         p.strengths, p.strengths_len, p.qps, p.qps_len, p.t8s, p.t8s_len);
+}
+
+static inline uint32_t deblock_picture_rows(const struct deblock_picture *picture, size_t first, size_t last)
+{
+    const struct deblock_picture p = deblock_picture_lent(*picture);
+    return deblock_rows(p.w, p.h, first, last, p.offset_a, p.offset_b, p.offset_chroma,
+                        p.luma, p.luma_len, p.u, p.u_len, p.v, p.v_len,
+                        p.strengths, p.strengths_len, p.qps, p.qps_len, p.t8s, p.t8s_len);
+}
+
+static inline uint32_t deblock_picture_visit(const struct deblock_picture *picture, size_t x, size_t y)
+{
+    const struct deblock_picture p = deblock_picture_lent(*picture);
+    return deblock_visit(p.w, p.h, x, y, p.offset_a, p.offset_b, p.offset_chroma,
+                         p.luma, p.luma_len, p.u, p.u_len, p.v, p.v_len,
+                         p.strengths, p.strengths_len, p.qps, p.qps_len, p.t8s, p.t8s_len,
+                         p.marks, p.marks_len);
+}
+
+static inline uint32_t deblock_picture_strengths(const struct deblock_picture *picture,
+                                                 const struct deblock_grids *grids,
+                                                 size_t x, size_t y, uint8_t t8)
+{
+    const struct deblock_picture p = deblock_picture_lent(*picture);
+    const struct deblock_grids g = deblock_grids_lent(*grids);
+    return deblock_strengths(p.w, p.h, x, y, t8,
+                             g.inter, g.inter_len, g.nnz, g.nnz_len, g.ref0, g.ref0_len, g.mv0, g.mv0_len,
+                             g.ref1, g.ref1_len, g.mv1, g.mv1_len, p.strengths, p.strengths_len);
+}
+
+/* flags: any of enum deblock_flag joined by |, or 0; other bits are not read. */
+static inline uint32_t deblock_picture_strengths_flags(const struct deblock_picture *picture,
+                                                       const struct deblock_grids *grids,
+                                                       size_t x, size_t y, unsigned flags)
+{
+    const struct deblock_picture p = deblock_picture_lent(*picture);
+    const struct deblock_grids g = deblock_grids_lent(*grids);
+    return deblock_strengths_flags(p.w, p.h, x, y, (flags & DEBLOCK_FLAT) != 0,
+                                   (flags & DEBLOCK_UNIFORM) != 0, (flags & DEBLOCK_T8) != 0,
+                                   g.inter, g.inter_len, g.nnz, g.nnz_len, g.ref0, g.ref0_len,
+                                   g.mv0, g.mv0_len, g.ref1, g.ref1_len, g.mv1, g.mv1_len,
+                                   p.strengths, p.strengths_len);
+}
+
+static inline uint32_t deblock_picture_strengths_kind(const struct deblock_picture *picture,
+                                                      const struct deblock_grids *grids,
+                                                      size_t x, size_t y, uint8_t kind)
+{
+    const struct deblock_picture p = deblock_picture_lent(*picture);
+    const struct deblock_grids g = deblock_grids_lent(*grids);
+    return deblock_strengths_kind(p.w, p.h, x, y, kind,
+                                  g.inter, g.inter_len, g.nnz, g.nnz_len, g.ref0, g.ref0_len,
+                                  g.mv0, g.mv0_len, g.ref1, g.ref1_len, g.mv1, g.mv1_len,
+                                  p.strengths, p.strengths_len);
+}
 
 #endif

@@ -1,0 +1,99 @@
+/* record FILE QP: writes a recording (crates/recordings/FORMAT.md) from a station's buffers, with this QP in
+ * every macroblock. `target/host/release/deblock replay FILE` replays it. */
+#include <stdio.h>
+#include <stdlib.h>
+
+#include "station.h"
+
+/* Writes the low bytes of a number, the lowest first. */
+static void put(FILE *file, unsigned long number, int bytes)
+{
+    for (int i = 0; i < bytes; i++)
+        fputc((int)(number >> 8 * i & 255), file);
+}
+
+static void put_motion(FILE *file, const int16_t *motion, size_t len)
+{
+    for (size_t i = 0; i < len; i++)
+        put(file, (unsigned long)motion[i], 2);
+}
+
+/* Writes a grid, which may be one that is not lent. */
+static void put_grid(FILE *file, const void *grid, size_t len)
+{
+    if (len > 0)
+        fwrite(grid, 1, len, file);
+}
+
+/* Writes the header and all planes. `before` is Y, U and V as they were before p was filtered. */
+static void put_planes(FILE *file, const uint8_t *before, const struct deblock_picture *p, int flags)
+{
+    fputs("DBV1", file);
+    put(file, p->w, 2);
+    put(file, p->h, 2);
+    put(file, 8, 1); /* bits a sample */
+    put(file, 1, 1); /* one frame */
+    put(file, (unsigned long)flags, 1);
+    put(file, (unsigned long)p->offset_chroma, 1); /* for U */
+    put(file, (unsigned long)p->offset_chroma, 1); /* for V */
+    put(file, 0, 1);
+    fwrite(before, 1, p->luma_len + p->u_len + p->v_len, file);
+    fwrite(p->luma, 1, p->luma_len, file);
+    fwrite(p->u, 1, p->u_len, file);
+    fwrite(p->v, 1, p->v_len, file);
+}
+
+static void record(FILE *file, const uint8_t *before, const struct deblock_picture *p,
+                   const struct deblock_grids *g)
+{
+    put_planes(file, before, p, (g->ref1_len > 0 ? 1 : 0) | (p->t8s_len > 0 ? 2 : 0));
+    put(file, (unsigned long)p->offset_a, 1);
+    put(file, (unsigned long)p->offset_b, 1);
+    put_grid(file, p->qps, p->qps_len);
+    put_grid(file, p->t8s, p->t8s_len);
+    put_grid(file, g->inter, g->inter_len);
+    put_grid(file, g->nnz, g->nnz_len);
+    put_grid(file, g->ref0, g->ref0_len);
+    put_motion(file, g->mv0, g->mv0_len);
+    put_grid(file, g->ref1, g->ref1_len);
+    put_motion(file, g->mv1, g->mv1_len);
+    put_grid(file, p->strengths, p->strengths_len);
+}
+
+/* Derives all strengths and filters the picture. */
+static uint32_t filter(const struct deblock_picture *p, const struct deblock_grids *g)
+{
+    uint32_t answer = DEBLOCK_DONE;
+    for (size_t i = 0; i < N && answer == DEBLOCK_DONE; i++)
+        answer = deblock_picture_strengths(p, g, i % W, i / W, p->t8s_len > 0 ? p->t8s[i] : 0);
+    return answer == DEBLOCK_DONE ? deblock_picture_frame(p) : answer;
+}
+
+static int trouble(const char *what)
+{
+    fprintf(stderr, "record: %s\n", what);
+    return 2;
+}
+
+int main(int argc, char **argv)
+{
+    if (argc != 3)
+        return trouble("the arguments are FILE and QP");
+    decode();
+    memset(qps, atoi(argv[2]), sizeof qps);
+    struct deblock_picture p = lend_picture();
+    struct deblock_grids g = lend_grids();
+    uint8_t before[sizeof planes];
+    memcpy(before, planes, sizeof planes);
+    uint32_t answer = filter(&p, &g);
+    if (answer != DEBLOCK_DONE)
+        return trouble(deblock_answer_text(answer));
+
+    FILE *file = fopen(argv[1], "wb");
+    if (!file)
+        return trouble("the file cannot be made");
+    record(file, before, &p, &g);
+    int bad = ferror(file);
+    bad |= fclose(file);
+    return bad ? trouble("the file cannot be written") : 0;
+}

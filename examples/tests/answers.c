@@ -1,0 +1,104 @@
+/* Every answer, kind and flag by its name, and the version. Prints the texts of the answers, and that of a
+ * number which is none. */
+#include "test.h"
+
+/* Each change stays while the next, which an earlier check finds, is made. */
+static void filtering(void)
+{
+    struct deblock_picture p = lend_picture();
+    decode();
+    expect("not ready", DEBLOCK_NOT_READY, deblock_picture_visit(&p, 1, 1));
+    expect("ready", DEBLOCK_DONE, deblock_picture_visit(&p, 0, 0));
+    expect("once more", DEBLOCK_MARKED_ALREADY, deblock_picture_visit(&p, 0, 0));
+    strengths[0] = 5;
+    expect("strength 5", DEBLOCK_BAD_STRENGTH, deblock_picture_frame(&p));
+    qps[0] = 52;
+    expect("QP 52", DEBLOCK_BAD_QP, deblock_picture_frame(&p));
+    marks[0] = 2;
+    expect("mark 2", DEBLOCK_NOT_A_BOOL, deblock_picture_visit(&p, 0, 0));
+    p.offset_chroma = 13;
+    expect("offset 13", DEBLOCK_BAD_OFFSET, deblock_picture_frame(&p));
+    p.marks_len--;
+    expect("marks cut", DEBLOCK_MACROBLOCK_GRID_LENGTH, deblock_picture_visit(&p, 0, 0));
+    p.v_len--;
+    expect("V cut", DEBLOCK_PLANE_LENGTH, deblock_picture_frame(&p));
+    expect("outside", DEBLOCK_OUTSIDE, deblock_picture_visit(&p, 0, H));
+    expect("rows 1 to 0", DEBLOCK_OUTSIDE, deblock_picture_rows(&p, 1, 0));
+    p.w = 257;
+    expect("257 wide", DEBLOCK_BAD_SIZE, deblock_picture_frame(&p));
+    strengths[0] = 0;
+}
+
+static void deriving(void)
+{
+    const struct deblock_picture p = lend_picture();
+    struct deblock_grids g = lend_grids();
+    decode();
+    expect("inter", DEBLOCK_DONE, deblock_picture_strengths_kind(&p, &g, 0, 0, DEBLOCK_INTER));
+    expect("intra", DEBLOCK_UNTRUE, deblock_picture_strengths_kind(&p, &g, 0, 0, DEBLOCK_INTRA));
+    expect("kind 4", DEBLOCK_UNTRUE, deblock_picture_strengths_kind(&p, &g, 0, 0, 4));
+    inter[0] = 0;
+    expect("mixed", DEBLOCK_MIXED_INTER, deblock_picture_strengths(&p, &g, 0, 0, 0));
+    ref0[0] = -2;
+    expect("reference -2", DEBLOCK_BAD_REFERENCE, deblock_picture_strengths(&p, &g, 0, 0, 0));
+    inter[0] = 2;
+    expect("inter 2", DEBLOCK_NOT_A_BOOL, deblock_picture_strengths(&p, &g, 0, 0, 0));
+    g.mv0_len--;
+    expect("motion cut", DEBLOCK_BLOCK_GRID_LENGTH, deblock_picture_strengths(&p, &g, 0, 0, 0));
+}
+
+/* What may be said of a macroblock: first of a flat one, then with a coefficient, then with motion too. */
+static void kinds(const struct deblock_picture *p, const struct deblock_grids *g)
+{
+    decode();
+    expect("flat: skip", 0, deblock_picture_strengths_kind(p, g, 0, 0, DEBLOCK_SKIP));
+    nnz[0] = 1;
+    expect("coded: skip", 12, deblock_picture_strengths_kind(p, g, 0, 0, DEBLOCK_SKIP));
+    expect("coded: uniform", 0, deblock_picture_strengths_kind(p, g, 0, 0, DEBLOCK_INTER_UNIFORM));
+    mv0[0] = 1;
+    expect("moved: uniform", 12, deblock_picture_strengths_kind(p, g, 0, 0, DEBLOCK_INTER_UNIFORM));
+    memset(inter, 0, sizeof inter);
+    expect("intra: intra", 0, deblock_picture_strengths_kind(p, g, 0, 0, DEBLOCK_INTRA));
+}
+
+/* The same of flags, with the strength of luma edge 1, which an 8x8 transform does not have. */
+static void flags(const struct deblock_picture *p, const struct deblock_grids *g)
+{
+    decode();
+    expect("flat: flat", 0, deblock_picture_strengths_flags(p, g, 0, 0, DEBLOCK_FLAT));
+    nnz[0] = 1;
+    expect("coded: flat", 12, deblock_picture_strengths_flags(p, g, 0, 0, DEBLOCK_FLAT));
+    expect("coded: uniform", 0, deblock_picture_strengths_flags(p, g, 0, 0, DEBLOCK_UNIFORM));
+    expect("4x4: edge 1", 2, strengths[4]);
+    expect("coded: 8x8", 0, deblock_picture_strengths_flags(p, g, 0, 0, DEBLOCK_UNIFORM | DEBLOCK_T8));
+    expect("8x8: edge 1", 0, strengths[4]);
+    mv0[0] = 1;
+    expect("moved: uniform", 12, deblock_picture_strengths_flags(p, g, 0, 0, DEBLOCK_UNIFORM));
+    expect("moved: nothing", 0, deblock_picture_strengths_flags(p, g, 0, 0, 0));
+    expect("4x4: edge 1", 2, strengths[4]);
+    expect("moved: 8x8", 0, deblock_picture_strengths(p, g, 0, 0, 1));
+    expect("8x8: edge 1", 0, strengths[4]);
+}
+
+static void version(void)
+{
+    char text[32];
+    snprintf(text, sizeof text, "%d.%d.%d", DEBLOCK_VERSION_MAJOR, DEBLOCK_VERSION_MINOR,
+             DEBLOCK_VERSION_PATCH);
+    expect("version", 0, strcmp(text, DEBLOCK_VERSION) != 0);
+}
+
+int main(void)
+{
+    const struct deblock_picture p = lend_picture();
+    const struct deblock_grids g = lend_grids();
+    filtering();
+    deriving();
+    kinds(&p, &g);
+    flags(&p, &g);
+    version();
+    for (uint32_t answer = DEBLOCK_DONE; answer <= DEBLOCK_NOT_READY + 1; answer++)
+        printf("%s\n", deblock_answer_text(answer));
+    expect("a text", 0, strcmp(deblock_answer_text(UINT32_MAX), deblock_answer_text(15)) != 0);
+    return faults != 0;
+}

@@ -1,0 +1,166 @@
+/* What the functions over structs hand to the flat calls. Stand-ins for these keep their arguments as
+ * numbers, and every member has a number of its own, so that each argument is looked at in its place. */
+#include "test.h"
+
+/* Members that are pointers point into this, at their numbers. */
+static int16_t room[64];
+
+/* A pointer's number. A pointer to elsewhere has 0, null has 99. */
+static size_t at(const void *pointer)
+{
+    size_t place = ((uintptr_t)pointer - (uintptr_t)room) / sizeof *room;
+    if (!pointer)
+        return 99;
+    return place < 64 ? place : 0;
+}
+
+/* What the last call was handed. */
+enum { MOST = 24 };
+static size_t handed[MOST];
+
+static uint32_t keep(const size_t *arguments, size_t bytes, uint32_t answer)
+{
+    memset(handed, 0, sizeof handed);
+    memcpy(handed, arguments, bytes);
+    return answer;
+}
+
+#define KEEP(answer, ...) \
+    { const size_t all[] = {__VA_ARGS__}; return keep(all, sizeof all, answer); }
+#define FILTERING \
+    int32_t a, int32_t b, int32_t c, uint8_t *y0, size_t yl, uint8_t *u0, size_t ul, uint8_t *v0, size_t vl, \
+    const uint8_t *s, size_t sl, const uint8_t *q, size_t ql, const uint8_t *t, size_t tl
+#define FILTERING_KEPT \
+    (size_t)a, (size_t)b, (size_t)c, at(y0), yl, at(u0), ul, at(v0), vl, at(s), sl, at(q), ql, at(t), tl
+#define DERIVING \
+    const uint8_t *i, size_t il, const uint8_t *n, size_t nl, const int8_t *r0, size_t r0l, \
+    const int16_t *m0, size_t m0l, const int8_t *r1, size_t r1l, const int16_t *m1, size_t m1l, \
+    uint8_t *s, size_t sl
+#define DERIVING_KEPT \
+    at(i), il, at(n), nl, at(r0), r0l, at(m0), m0l, at(r1), r1l, at(m1), m1l, at(s), sl
+
+uint32_t deblock_frame(size_t w, size_t h, FILTERING)
+KEEP(101, w, h, FILTERING_KEPT)
+uint32_t deblock_rows(size_t w, size_t h, size_t first, size_t last, FILTERING)
+KEEP(102, w, h, first, last, FILTERING_KEPT)
+uint32_t deblock_visit(size_t w, size_t h, size_t x, size_t y, FILTERING, uint8_t *m, size_t ml)
+KEEP(103, w, h, x, y, FILTERING_KEPT, at(m), ml)
+uint32_t deblock_strengths(size_t w, size_t h, size_t x, size_t y, uint8_t t8, DERIVING)
+KEEP(104, w, h, x, y, t8, DERIVING_KEPT)
+uint32_t deblock_strengths_flags(size_t w, size_t h, size_t x, size_t y, uint8_t flat, uint8_t uniform,
+                                 uint8_t t8, DERIVING)
+KEEP(105, w, h, x, y, flat, uniform, t8, DERIVING_KEPT)
+uint32_t deblock_strengths_kind(size_t w, size_t h, size_t x, size_t y, uint8_t kind, DERIVING)
+KEEP(106, w, h, x, y, kind, DERIVING_KEPT)
+
+/* EXPECT(what, answer, call, arguments..): what a call answers and hands on. */
+static void expect_handed(const char *what, uint32_t answer, uint32_t got, const size_t *want)
+{
+    expect(what, answer, got);
+    for (size_t i = 0; i < MOST; i++)
+        expect(what, (uint32_t)want[i], (uint32_t)handed[i]);
+}
+#define EXPECT(what, answer, call, ...) \
+    do { \
+        const size_t want[MOST] = {__VA_ARGS__}; \
+        expect_handed(what, answer, call, want); \
+    } while (0)
+
+/* Lengths are numbered from 11 on, each 20 below its pointer. */
+static struct deblock_picture numbered_lengths(void)
+{
+    struct deblock_picture p = DEBLOCK_NONE;
+    p.w = 1, p.h = 2, p.offset_a = 3, p.offset_b = 4, p.offset_chroma = 5;
+    p.luma_len = 11, p.u_len = 12, p.v_len = 13, p.strengths_len = 14, p.qps_len = 15, p.t8s_len = 16;
+    p.marks_len = 17;
+    return p;
+}
+
+static struct deblock_picture numbered(void)
+{
+    struct deblock_picture p = numbered_lengths();
+    p.luma = (uint8_t *)(room + 31);
+    p.u = (uint8_t *)(room + 32);
+    p.v = (uint8_t *)(room + 33);
+    p.strengths = (uint8_t *)(room + 34);
+    p.qps = (uint8_t *)(room + 35);
+    p.t8s = (uint8_t *)(room + 36);
+    p.marks = (uint8_t *)(room + 37);
+    return p;
+}
+
+static struct deblock_grids numbered_grid_lengths(void)
+{
+    struct deblock_grids g = DEBLOCK_NONE;
+    g.inter_len = 21, g.nnz_len = 22, g.ref0_len = 23, g.mv0_len = 24, g.ref1_len = 25, g.mv1_len = 26;
+    return g;
+}
+
+static struct deblock_grids numbered_grids(void)
+{
+    struct deblock_grids g = numbered_grid_lengths();
+    g.inter = (uint8_t *)(room + 41);
+    g.nnz = (uint8_t *)(room + 42);
+    g.ref0 = (int8_t *)(room + 43);
+    g.mv0 = room + 44;
+    g.ref1 = (int8_t *)(room + 45);
+    g.mv1 = room + 46;
+    return g;
+}
+
+static void all_lent(void)
+{
+    const struct deblock_picture p = numbered();
+    const struct deblock_grids g = numbered_grids();
+    EXPECT("frame", 101, deblock_picture_frame(&p),
+           1, 2, 3, 4, 5, 31, 11, 32, 12, 33, 13, 34, 14, 35, 15, 36, 16);
+    EXPECT("rows", 102, deblock_picture_rows(&p, 8, 9),
+           1, 2, 8, 9, 3, 4, 5, 31, 11, 32, 12, 33, 13, 34, 14, 35, 15, 36, 16);
+    EXPECT("visit", 103, deblock_picture_visit(&p, 8, 9),
+           1, 2, 8, 9, 3, 4, 5, 31, 11, 32, 12, 33, 13, 34, 14, 35, 15, 36, 16, 37, 17);
+    EXPECT("strengths", 104, deblock_picture_strengths(&p, &g, 8, 9, 7),
+           1, 2, 8, 9, 7, 41, 21, 42, 22, 43, 23, 44, 24, 45, 25, 46, 26, 34, 14);
+    EXPECT("kind", 106, deblock_picture_strengths_kind(&p, &g, 8, 9, 7),
+           1, 2, 8, 9, 7, 41, 21, 42, 22, 43, 23, 44, 24, 45, 25, 46, 26, 34, 14);
+    EXPECT("flat", 105, deblock_picture_strengths_flags(&p, &g, 8, 9, DEBLOCK_FLAT),
+           1, 2, 8, 9, 1, 0, 0, 41, 21, 42, 22, 43, 23, 44, 24, 45, 25, 46, 26, 34, 14);
+    EXPECT("uniform", 105, deblock_picture_strengths_flags(&p, &g, 8, 9, DEBLOCK_UNIFORM),
+           1, 2, 8, 9, 0, 1, 0, 41, 21, 42, 22, 43, 23, 44, 24, 45, 25, 46, 26, 34, 14);
+    EXPECT("8x8", 105, deblock_picture_strengths_flags(&p, &g, 8, 9, DEBLOCK_T8),
+           1, 2, 8, 9, 0, 0, 1, 41, 21, 42, 22, 43, 23, 44, 24, 45, 25, 46, 26, 34, 14);
+}
+
+/* Where a pointer is null, another goes on with length 0. */
+static void all_null(void)
+{
+    static const struct deblock_grids none = DEBLOCK_NONE;
+    const struct deblock_picture p = numbered_lengths();
+    const struct deblock_grids g = numbered_grid_lengths();
+    EXPECT("null members", 103, deblock_picture_visit(&p, 8, 9), 1, 2, 8, 9, 3, 4, 5);
+    EXPECT("null grids", 104, deblock_picture_strengths(&p, &g, 8, 9, 7), 1, 2, 8, 9, 7);
+    EXPECT("no grids", 104, deblock_picture_strengths(&p, &none, 8, 9, 7), 1, 2, 8, 9, 7);
+}
+
+/* t8s, ref1 and mv1 may be left out; with a length they may not, so something goes with them that may not. */
+static void null_with_a_length(void)
+{
+    struct deblock_picture p = numbered();
+    struct deblock_grids g = numbered_grids();
+    p.t8s = NULL;
+    EXPECT("t8s", 101, deblock_picture_frame(&p), 1, 2, 3, 4, 5, 31, 11, 32, 12, 33, 13, 34, 14);
+    g.ref1 = NULL;
+    EXPECT("ref1", 104, deblock_picture_strengths(&p, &g, 8, 9, 7),
+           1, 2, 8, 9, 7, 0, 0, 42, 22, 43, 23, 44, 24, 0, 0, 46, 26, 34, 14);
+    g = numbered_grids();
+    g.mv1 = NULL;
+    EXPECT("mv1", 104, deblock_picture_strengths(&p, &g, 8, 9, 7),
+           1, 2, 8, 9, 7, 0, 0, 42, 22, 43, 23, 44, 24, 45, 25, 0, 0, 34, 14);
+}
+
+int main(void)
+{
+    all_lent();
+    all_null();
+    null_with_a_length();
+    return faults != 0;
+}

@@ -1,0 +1,55 @@
+/* Answers where something is not lent, or is null with a length. */
+#include "test.h"
+
+/* The filtering functions answer one number, the strength functions another. */
+static void expect_all(const char *what, uint32_t filtering, uint32_t deriving,
+                       const struct deblock_picture *p, const struct deblock_grids *g)
+{
+    decode();
+    expect(what, filtering, deblock_picture_frame(p));
+    expect(what, filtering, deblock_picture_rows(p, 0, p->h));
+    expect(what, filtering, deblock_picture_visit(p, 0, 0));
+    expect(what, deriving, deblock_picture_strengths(p, g, 0, 0, 0));
+    expect(what, deriving, deblock_picture_strengths_flags(p, g, 0, 0, 0));
+    expect(what, deriving, deblock_picture_strengths_kind(p, g, 0, 0, DEBLOCK_INTER));
+}
+
+static void not_lent(void)
+{
+    static struct deblock_grids none;
+    const struct deblock_grids g = lend_grids();
+    struct deblock_picture p = DEBLOCK_NONE;
+    expect_all("nothing", DEBLOCK_BAD_SIZE, DEBLOCK_BAD_SIZE, &p, &none);
+    p.w = p.h = 1;
+    expect_all("a size alone", DEBLOCK_PLANE_LENGTH, DEBLOCK_MACROBLOCK_GRID_LENGTH, &p, &none);
+    p = lend_picture();
+    expect_all("no grids", DEBLOCK_DONE, DEBLOCK_BLOCK_GRID_LENGTH, &p, &none);
+    expect_all("no 8x8 flags and no list 1", DEBLOCK_DONE, DEBLOCK_DONE, &p, &g);
+    p.marks = NULL;
+    p.marks_len = 0;
+    expect("no marks", DEBLOCK_DONE, deblock_picture_frame(&p));
+    expect("no marks", DEBLOCK_MACROBLOCK_GRID_LENGTH, deblock_picture_visit(&p, 0, 0));
+}
+
+/* Each line takes one pointer more away; what is refused for it comes earlier in the order of checks. */
+static void null_with_a_length(void)
+{
+    struct deblock_picture p = lend_picture();
+    struct deblock_grids g = lend_grids();
+    p.t8s_len = N;
+    expect_all("8x8 flags", DEBLOCK_MACROBLOCK_GRID_LENGTH, DEBLOCK_DONE, &p, &g);
+    g.ref1_len = 16 * N;
+    g.mv1_len = 32 * N;
+    expect_all("list 1", DEBLOCK_MACROBLOCK_GRID_LENGTH, DEBLOCK_BLOCK_GRID_LENGTH, &p, &g);
+    p.strengths = NULL;
+    expect_all("strengths", DEBLOCK_MACROBLOCK_GRID_LENGTH, DEBLOCK_MACROBLOCK_GRID_LENGTH, &p, &g);
+    p.v = NULL;
+    expect_all("V", DEBLOCK_PLANE_LENGTH, DEBLOCK_MACROBLOCK_GRID_LENGTH, &p, &g);
+}
+
+int main(void)
+{
+    not_lent();
+    null_with_a_length();
+    return faults != 0;
+}

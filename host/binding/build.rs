@@ -18,7 +18,9 @@ fn main() {
     println!("cargo::rerun-if-changed={}", archive.display());
     let Ok(found) = archive.canonicalize() else {
         println!("cargo::error=the archive {} was not found", archive.display());
-        println!("cargo::error=write it with `rt staticlib deblock`, or name it with DEBLOCK_ARCHIVE=FILE");
+        println!("cargo::error=write it with `rt staticlib deblock` on x86-64, elsewhere with");
+        println!("cargo::error=`host/native-staticlib deblock target/native/libdeblock.a`, or name one with");
+        println!("cargo::error=DEBLOCK_ARCHIVE=FILE, by its whole path");
         return;
     };
     let name = found.file_name().and_then(|s| s.to_str()?.strip_prefix("lib")?.strip_suffix(".a"));
@@ -28,4 +30,6 @@ fn main() {
     };
     println!("cargo::rustc-link-search=native={}", folder.display());
     println!("cargo::rustc-link-lib=static={name}");
+    // for build scripts of those that link it, as DEP_DEBLOCK_ARCHIVE
+    println!("cargo::metadata=archive={}", found.display());
 }

@@ -25,7 +25,9 @@ fn main() {
     let mods = [("deblock", &deblock), ("predict", &predict), ("probed", &probed)];
     let lines: String = mods
         .iter()
-        .map(|(name, path)| format!("#[allow(dead_code, unused, clippy::all)]\n#[path = {path:?}]\npub mod {name};\n"))
+        .map(|(name, path)| {
+            format!("#[allow(unused, clippy::all, rustdoc::all)]\n#[path = {path:?}]\npub mod {name};\n")
+        })
         .collect();
     fs::write(out.join("original.rs"), lines).expect("OUT_DIR can be written");
     for path in [&deblock, &predict, &probe] {
@@ -33,20 +35,16 @@ fn main() {
     }
 }
 
-/// The folder of the original's sources: DEBLOCK_SRC, else docs/src of the repository, else
-/// ../shared/docs/src.
+/// The folder of the original's sources: in DEBLOCK_SRC, else in docs/src of the repository.
 fn find(here: &Path) -> Option<PathBuf> {
-    let root = here.join("../..");
-    let given = env::var_os("DEBLOCK_SRC").map(PathBuf::from);
-    let places = given.into_iter().chain([root.join("docs/src"), root.join("../shared/docs/src")]);
-    let folders: Vec<PathBuf> = places.map(|top| top.join(PLACE)).collect();
-    let found = folders.iter().find(|folder| folder.join("deblock.rs").is_file());
-    if found.is_none() {
-        println!("cargo::error=the Rust original (deblock.rs and predict.rs) was not found");
+    let top = env::var_os("DEBLOCK_SRC").map_or(here.join("../../docs/src"), PathBuf::from);
+    let folder = top.join(PLACE);
+    if !folder.join("deblock.rs").is_file() {
+        println!("cargo::error=the Rust original (deblock.rs and predict.rs) is not in {}", folder.display());
         println!("cargo::error=say where with DEBLOCK_SRC=FOLDER, the folder that holds {PLACE}");
-        folders.iter().for_each(|folder| println!("cargo::error=tried {}", folder.display()));
+        return None;
     }
-    found.map(|folder| folder.canonicalize().expect("it exists"))
+    Some(folder.canonicalize().expect("it exists"))
 }
 
 fn read(path: &Path) -> String {

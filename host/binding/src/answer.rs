@@ -1,57 +1,94 @@
-//! What a call answers: document 01's numbers in words.
+//! What a call answers.
 
-use std::fmt;
+use std::{error, fmt};
 
+/// What a call answers, by the numbers of docs/RULES.md, "Answers". All but `Done` are refusals, and a
+/// refusal has changed nothing that was lent. It must be looked at:
+///
+/// ```compile_fail
+/// #![deny(unused_must_use)]
+/// deblock::Picture::default().frame();
+/// ```
+#[must_use = "a refused call has done nothing"]
 #[derive(Clone, Copy, PartialEq, Eq, Debug, PartialOrd, Ord)]
 pub enum Answer {
+    /// The call did what was asked.
     Done = 0,
-    Size = 1,
-    Place = 2,
+    /// `w` or `h` is not 1 to 256, or their product is above 36,864.
+    BadSize = 1,
+    /// The macroblock is outside the picture, or the rows are not `start <= end <= h`.
+    Outside = 2,
+    /// `luma`, `u` or `v` has the wrong length.
     PlaneLength = 3,
+    /// `strengths`, `qps`, `t8s` or `marks` has the wrong length.
     MacroblockGridLength = 4,
+    /// One of the `Grids` has the wrong length, or just one of `ref1` and `mv1` is empty.
     BlockGridLength = 5,
-    Offset = 6,
+    /// `a`, `b` or `chroma` is not -12 to 12.
+    BadOffset = 6,
+    /// A byte of `inter`, `t8s` or `marks` that is read is above 1.
     NotABool = 7,
-    Qp = 8,
-    Strength = 9,
-    Reference = 10,
+    /// A QP that is read is above 51.
+    BadQp = 8,
+    /// A strength that is read is above 4.
+    BadStrength = 9,
+    /// A reference that is read is below -1.
+    BadReference = 10,
+    /// The 16 blocks, the 4 read to the left or the 4 read above disagree on inter.
     MixedInter = 11,
-    UntrueKind = 12,
+    /// The kind, or `flat` or `uniform` where it is set, is not true of the grids.
+    Untrue = 12,
+    /// The macroblock is marked already.
     MarkedAlready = 13,
+    /// The left, upper or upper right neighbour exists and is unmarked.
     NotReady = 14,
 }
 
 /// Each answer with its sentence, in the order of the numbers.
 const WORDS: [(Answer, &str); 15] = [
     (Answer::Done, "done"),
-    (Answer::Size, "width, height or their product is out of range"),
-    (Answer::Place, "the macroblock or the rows are not in the picture"),
-    (Answer::PlaneLength, "a plane has the wrong length"),
-    (Answer::MacroblockGridLength, "a grid of one entry a macroblock has the wrong length"),
+    (Answer::BadSize, "width, height or their product is out of range"),
+    (Answer::Outside, "the macroblock is outside the picture, or the rows are not first <= last <= h"),
+    (Answer::PlaneLength, "luma, U or V has the wrong length"),
+    (Answer::MacroblockGridLength, "strengths, QPs, 8x8 flags or marks have the wrong length"),
     (Answer::BlockGridLength, "a 4x4 grid has the wrong length, or just one list 1 grid is empty"),
-    (Answer::Offset, "an offset is not within -12 to 12"),
+    (Answer::BadOffset, "an offset is not within -12 to 12"),
     (Answer::NotABool, "an inter byte, 8x8 flag or mark is not 0 or 1"),
-    (Answer::Qp, "a QP is above 51"),
-    (Answer::Strength, "a strength is above 4"),
-    (Answer::Reference, "a reference number is below -1"),
-    (Answer::MixedInter, "the blocks of one macroblock disagree on inter"),
-    (Answer::UntrueKind, "the kind or a set flag is not true of the grids"),
+    (Answer::BadQp, "a QP is above 51"),
+    (Answer::BadStrength, "a strength is above 4"),
+    (Answer::BadReference, "a reference number is below -1"),
+    (Answer::MixedInter, "the 16 blocks, the 4 to the left or the 4 above disagree on inter"),
+    (Answer::Untrue, "the kind or a set flag is not true of the grids"),
     (Answer::MarkedAlready, "the macroblock was visited before"),
     (Answer::NotReady, "its left, upper or upper right neighbour is not visited yet"),
 ];
 
 impl Answer {
-    /// The answer with document 01's number `n`. The archive is proved to give no other; one would mean that
-    /// a different archive was linked, and there is no going on from that.
-    pub fn of(n: u32) -> Answer {
+    /// The answer of number `n`. The archive is proved to give no other; one would mean that a different
+    /// archive was linked, and there is no going on from that.
+    pub(crate) fn of(n: u32) -> Answer {
         match WORDS.get(n as usize) {
             Some(&(answer, _)) => answer,
-            None => panic!("the archive answered {n}, which document 01 does not have: is it the right archive?"),
+            None => panic!("the archive answered {n}, which is no answer of this version: is it the right archive?"),
         }
     }
 
+    /// The number that the archive answered, 0 to 14.
     pub fn number(self) -> u32 {
         self as u32
+    }
+
+    /// Whether the call did what was asked.
+    pub fn is_done(self) -> bool {
+        self == Answer::Done
+    }
+
+    /// The same as a result, for `?`: a refusal is the error.
+    pub fn ok(self) -> Result<(), Answer> {
+        match self {
+            Answer::Done => Ok(()),
+            refusal => Err(refusal),
+        }
     }
 }
 
@@ -61,16 +98,34 @@ impl fmt::Display for Answer {
     }
 }
 
+impl error::Error for Answer {}
+
 #[cfg(test)]
 mod tests {
     use super::*;
 
     #[test]
     fn numbers_and_words_are_in_step() {
-        for (n, (answer, _)) in WORDS.iter().enumerate() {
-            assert_eq!(answer.number() as usize, n);
-            assert_eq!(Answer::of(n as u32), *answer);
+        for (n, (answer, words)) in WORDS.iter().enumerate() {
+            assert_eq!((Answer::of(n as u32), answer.number() as usize), (*answer, n));
+            assert_eq!(answer.to_string(), *words);
         }
-        assert_eq!(Answer::NotReady.to_string(), "its left, upper or upper right neighbour is not visited yet");
+    }
+
+    #[test]
+    #[should_panic(expected = "the archive answered 15")]
+    fn an_unknown_number_is_not_passed_on() {
+        let _ = Answer::of(15);
+    }
+
+    #[test]
+    fn a_refusal_is_an_error() {
+        assert!(Answer::Done.is_done() && !Answer::NotReady.is_done());
+        let refused = || -> Result<(), Box<dyn error::Error>> {
+            Answer::Done.ok()?;
+            Answer::BadQp.ok()?;
+            Ok(())
+        };
+        assert_eq!(refused().map_err(|e| e.to_string()), Err("a QP is above 51".to_string()));
     }
 }

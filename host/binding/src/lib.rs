@@ -1,185 +1,132 @@
-//! The safe binding over the proved deblocking filter.
+//! The deblocking filter of the survey station: a safe binding over the archive of the proved code.
 //!
-//! `wire` has the six calls as the archive has them, with slices in the place of pointers and lengths. This
-//! page gives them types: a `Size`, `Offsets`, a `Kind`, and an `Answer` in the place of document 01's
-//! numbers.
+//! A [`Picture`] holds what stays the same throughout a picture and borrows its memory. Its six methods are
+//! the six calls of the archive; each answers an [`Answer`]. What goes into the buffers stands in
+//! docs/RULES.md, "Sizes and layouts".
 //!
-//! A refused call has changed nothing that was lent to it. No call allocates, blocks, or keeps what it was
-//! lent.
+//! # From grids to planes
+//!
+//! Four macroblocks that moved apart. Macroblock (0, 1) is asked for before its upper right neighbour, and is
+//! refused; after that neighbour it is visited.
+//!
+//! ```
+//! use deblock::{Answer, Grids, Picture, Place, Size};
+//!
+//! let size = Size { w: 2, h: 2 };
+//! let n = size.macroblocks();
+//! let (inter, nnz, ref0) = (vec![1; 16 * n], vec![0; 16 * n], vec![0; 16 * n]);
+//! // the right column moves one sample to the right, the lower row one down
+//! let mv0: Vec<i16> = (0..16 * n as i16).flat_map(|b| [b % 8 / 4 * 4, b / 32 * 4]).collect();
+//! let grids = Grids { inter: &inter, nnz: &nnz, ref0: &ref0, mv0: &mv0, ..Grids::default() };
+//!
+//! let level = |i: usize| [100, 103, 105, 104][i / 512 * 2 + i % 32 / 16];
+//! let mut luma: Vec<u8> = (0..256 * n).map(level).collect();
+//! let mut picture = Picture {
+//!     size,
+//!     luma: &mut luma,
+//!     u: &mut vec![128; 64 * n],
+//!     v: &mut vec![128; 64 * n],
+//!     strengths: &mut vec![0; 32 * n],
+//!     qps: &vec![40; n],
+//!     marks: &mut vec![0; n],
+//!     ..Picture::default()
+//! };
+//! for at in size.places() {
+//!     picture.derive(grids, at, false).ok()?;
+//! }
+//! assert!(picture.visit(Place { x: 0, y: 0 }).is_done());
+//! let early = picture.visit(Place { x: 0, y: 1 });
+//! assert_eq!(early, Answer::NotReady);
+//! assert_eq!(early.to_string(), "its left, upper or upper right neighbour is not visited yet");
+//! for (x, y) in [(1, 0), (0, 1), (1, 1)] {
+//!     picture.visit(Place { x, y }).ok()?;
+//! }
+//! assert_eq!(picture.marks, [1; 4]);
+//! assert_eq!(luma[15 * 32 + 15], 103); // the order that was refused would have left 102
+//! # Ok::<(), Answer>(())
+//! ```
+//!
+//! # Visits as slices arrive
+//!
+//! What is not ready waits, and is asked for again once another was visited. In whatever order all
+//! macroblocks arrive, this ends with the whole picture, and with the samples of raster order. A macroblock
+//! may be shown once it and its right and lower neighbours, as far as they exist, are marked: no later visit
+//! changes it. A whole station, which stores slices, derives strengths and shows what is final, is
+//! `host/binding/examples/slices`.
+//!
+//! ```
+//! use deblock::{Answer, Picture, Place, Size};
+//!
+//! /// Visits what has arrived as far as it is ready; the rest goes on waiting.
+//! fn visit_ready(picture: &mut Picture, waiting: &mut Vec<Place>) -> Result<(), Answer> {
+//!     let mut before = usize::MAX;
+//!     while waiting.len() < before {
+//!         before = waiting.len();
+//!         for at in std::mem::take(waiting) {
+//!             match picture.visit(at) {
+//!                 Answer::NotReady => waiting.push(at),
+//!                 Answer::MarkedAlready => {} // its slice has come twice: its samples are not stored again
+//!                 answer => answer.ok()?,
+//!             }
+//!         }
+//!     }
+//!     Ok(())
+//! }
+//!
+//! let size = Size { w: 3, h: 2 };
+//! let n = size.macroblocks();
+//! let luma: Vec<u8> = (0..256 * n).map(|i| 60 + (i / 4 % 8) as u8).collect();
+//! let (mut by_visits, mut whole) = (luma.clone(), luma);
+//! let mut picture = Picture {
+//!     size,
+//!     luma: &mut by_visits,
+//!     u: &mut vec![90; 64 * n],
+//!     v: &mut vec![90; 64 * n],
+//!     strengths: &mut vec![3; 32 * n],
+//!     qps: &vec![40; n],
+//!     marks: &mut vec![0; n],
+//!     ..Picture::default()
+//! };
+//! let (upper, lower): (Vec<Place>, Vec<Place>) = size.places().partition(|at| at.y == 0);
+//! let mut waiting = lower.clone(); // the slice of the lower row comes first
+//! visit_ready(&mut picture, &mut waiting)?;
+//! assert_eq!(waiting, lower);
+//! waiting.extend([upper, lower].concat());
+//! visit_ready(&mut picture, &mut waiting)?;
+//! assert!(waiting.is_empty());
+//!
+//! picture.luma = &mut whole;
+//! picture.frame().ok()?;
+//! assert!(by_visits == whole);
+//! # Ok::<(), Answer>(())
+//! ```
+//!
+//! # What holds of every call
+//!
+//! - A refused call has changed nothing that it was lent. Whatever the buffers hold and however long they
+//!   are, a call ends and answers.
+//! - No call allocates, waits, takes a lock, or keeps what it was lent. The archive has no state of its own.
+//! - So the calls are re-entrant, and pictures on several threads may be filtered at the same time; a
+//!   `Picture` is `Send` and `Sync`. Two calls on one picture are never made at once, since each borrows the
+//!   picture mutably.
+//!
+//! # How to link
+//!
+//! Name this folder as a dependency: `deblock = { path = "../deblock/host/binding" }`. The archive is
+//! `target/staticlib/libdeblock.a` of the repository on x86-64, which `rt staticlib deblock` writes, and
+//! `target/native/libdeblock.a` elsewhere, which `host/native-staticlib deblock target/native/libdeblock.a`
+//! writes. `DEBLOCK_ARCHIVE=FILE` in the environment of cargo names another, by its whole path. No other
+//! library is needed.
+
+#![deny(missing_docs)]
 
 mod answer;
+mod lent;
+mod picture;
 // One line a grid, as in the C declarations, is easier to check by eye.
 #[rustfmt::skip]
 pub mod wire;
 
 pub use answer::Answer;
-
-/// Width and height of a picture in macroblocks: each 1 to 256, their product at most 36,864.
-#[derive(Clone, Copy, PartialEq, Eq, Debug)]
-pub struct Size {
-    pub w: usize,
-    pub h: usize,
-}
-
-/// A macroblock's column and row, from 0.
-#[derive(Clone, Copy, PartialEq, Eq, Debug)]
-pub struct Place {
-    pub x: usize,
-    pub y: usize,
-}
-
-/// The three offsets of a picture, each -12 to 12.
-#[derive(Clone, Copy, PartialEq, Eq, Debug, Default)]
-pub struct Offsets {
-    pub a: i32,
-    pub b: i32,
-    pub chroma: i32,
-}
-
-/// What the caller knows of a macroblock. The call refuses a kind that is not true of the grids.
-#[derive(Clone, Copy, PartialEq, Eq, Debug)]
-pub enum Kind {
-    /// All 16 blocks are intra.
-    Intra = 0,
-    /// All 16 blocks are inter with the same motion and no coefficients.
-    Skip = 1,
-    /// All 16 blocks are inter with the same motion.
-    InterUniform = 2,
-    /// All 16 blocks are inter.
-    Inter = 3,
-}
-
-/// The 4x4 grids of a picture, in rows of 4*W blocks. The two list 1 grids may both be empty: no block uses
-/// list 1.
-#[derive(Clone, Copy)]
-pub struct Grids<'a> {
-    /// 0 intra, 1 inter.
-    pub inter: &'a [u8],
-    /// Coefficient counts.
-    pub nnz: &'a [u8],
-    /// Reference numbers, -1 for none.
-    pub ref0: &'a [i8],
-    /// Motion, x then y for each block.
-    pub mv0: &'a [i16],
-    pub ref1: &'a [i8],
-    pub mv1: &'a [i16],
-}
-
-/// The planes of a picture, which filtering changes.
-pub struct Planes<'a> {
-    /// 256 bytes a macroblock.
-    pub luma: &'a mut [u8],
-    /// 64 bytes a macroblock.
-    pub u: &'a mut [u8],
-    pub v: &'a mut [u8],
-}
-
-/// What filtering reads beside the planes.
-#[derive(Clone, Copy)]
-pub struct Stored<'a> {
-    /// 32 bytes a macroblock, 0 to 4.
-    pub strengths: &'a [u8],
-    /// 0 to 51, one a macroblock.
-    pub qps: &'a [u8],
-    /// 8x8 flags, 0 or 1, one a macroblock; may be empty: none is set.
-    pub t8s: &'a [u8],
-}
-
-/// Writes the 32 strengths of one macroblock, whose kind the caller knows.
-pub fn strengths_by_kind(size: Size, at: Place, kind: Kind, g: Grids, strengths: &mut [u8]) -> Answer {
-    Answer::of(wire::strengths_kind(size.w, size.h, at.x, at.y, kind as u8, g, strengths))
-}
-
-/// Writes the 32 strengths of one macroblock, of which flat or uniform may be known.
-pub fn strengths_by_flags(
-    size: Size,
-    at: Place,
-    (flat, uniform, t8): (bool, bool, bool),
-    g: Grids,
-    strengths: &mut [u8],
-) -> Answer {
-    let flags = [flat, uniform, t8].map(u8::from);
-    Answer::of(wire::strengths_flags(size.w, size.h, at.x, at.y, flags, g, strengths))
-}
-
-/// Writes the 32 strengths of one macroblock, of which nothing is known but its 8x8 flag.
-pub fn strengths(size: Size, at: Place, t8: bool, g: Grids, strengths: &mut [u8]) -> Answer {
-    Answer::of(wire::strengths(size.w, size.h, at.x, at.y, t8.into(), g, strengths))
-}
-
-/// Filters a whole picture.
-pub fn frame(size: Size, o: Offsets, planes: Planes, stored: Stored) -> Answer {
-    Answer::of(wire::frame(size.w, size.h, [o.a, o.b, o.chroma], planes, stored))
-}
-
-/// Filters the macroblock rows `rows.start` to `rows.end`, which is not among them.
-pub fn rows(size: Size, rows: std::ops::Range<usize>, o: Offsets, planes: Planes, stored: Stored) -> Answer {
-    Answer::of(wire::rows(size.w, size.h, rows.start, rows.end, [o.a, o.b, o.chroma], planes, stored))
-}
-
-/// Filters one macroblock, if it is ready, and sets its mark. `marks` is one byte a macroblock, all 0 at the
-/// start.
-pub fn visit(size: Size, at: Place, o: Offsets, planes: Planes, stored: Stored, marks: &mut [u8]) -> Answer {
-    Answer::of(wire::visit(size.w, size.h, at.x, at.y, [o.a, o.b, o.chroma], planes, stored, marks))
-}
-
-#[cfg(test)]
-mod tests {
-    use super::*;
-
-    /// Document 01's P12: readiness in a picture of 2 by 2, and of width 1.
-    #[test]
-    fn visits_wait_for_the_upper_right() {
-        for (w, second) in [(2, Answer::NotReady), (1, Answer::Done)] {
-            let n = 2 * w;
-            let (mut luma, mut u, mut v) = (vec![90; 256 * n], vec![90; 64 * n], vec![90; 64 * n]);
-            let (strengths, qps) = (vec![3; 32 * n], vec![40; n]);
-            let stored = Stored { strengths: &strengths, qps: &qps, t8s: &[] };
-            let mut marks = vec![0; n];
-            let mut ask = |x, at| {
-                let planes = Planes { luma: &mut luma, u: &mut u, v: &mut v };
-                visit(Size { w, h: 2 }, Place { x, y: at }, Offsets::default(), planes, stored, &mut marks)
-            };
-            assert_eq!([ask(0, 0), ask(0, 1), ask(w, 0)], [Answer::Done, second, Answer::Place]);
-        }
-    }
-
-    /// P4 through whole pictures and row ranges: strength 4 between 60 and 70 at QP 30.
-    #[test]
-    fn a_strong_edge() {
-        let mut strengths = [0; 32];
-        strengths[8..12].fill(4);
-        let stored = Stored { strengths: &strengths, qps: &[30], t8s: &[0] };
-        let (size, o) = (Size { w: 1, h: 1 }, Offsets::default());
-        for by_rows in [false, true] {
-            let mut luma: Vec<u8> = (0..256).map(|i| if i % 16 < 8 { 60 } else { 70 }).collect();
-            let (mut u, mut v) = (vec![60; 64], vec![60; 64]);
-            let planes = Planes { luma: &mut luma, u: &mut u, v: &mut v };
-            let answer = if by_rows { rows(size, 0..1, o, planes, stored) } else { frame(size, o, planes, stored) };
-            assert_eq!((answer, &luma[244..252]), (Answer::Done, &[60, 60, 60, 63, 68, 70, 70, 70][..]));
-        }
-    }
-
-    /// The three strength calls on one flat macroblock, and on one that is intra.
-    #[test]
-    fn strengths_of_one_macroblock() {
-        let (size, at) = (Size { w: 1, h: 1 }, Place { x: 0, y: 0 });
-        let ask = |inter: u8, kind: Kind, flat: bool| {
-            let inter = [inter; 16];
-            let grids = Grids { inter: &inter, nnz: &[0; 16], ref0: &[5; 16], mv0: &[7; 32], ref1: &[], mv1: &[] };
-            let mut out = [9; 96];
-            let (first, rest) = out.split_at_mut(32);
-            let (second, third) = rest.split_at_mut(32);
-            let answers = [
-                strengths_by_kind(size, at, kind, grids, first),
-                strengths_by_flags(size, at, (flat, false, false), grids, second),
-                strengths(size, at, true, grids, third),
-            ];
-            (answers, out)
-        };
-        assert_eq!(ask(1, Kind::Skip, true), ([Answer::Done; 3], [0; 96]));
-        let (answers, out) = ask(0, Kind::InterUniform, true);
-        assert_eq!(answers, [Answer::UntrueKind, Answer::UntrueKind, Answer::Done]);
-        assert_eq!((&out[..64], &out[64..80]), (&[9; 64][..], &[0, 0, 0, 0, 0, 0, 0, 0, 3, 3, 3, 3, 0, 0, 0, 0][..]));
-    }
-}
+pub use lent::{Flags, Grids, Kind, Offsets, Place, Size};
+pub use picture::Picture;

@@ -1,15 +1,11 @@
-//! The six calls as the archive has them, over slices: numbers in, document 01's number out.
+//! The six calls as the archive has them: numbers in, a number out (docs/RULES.md, "Answers"). For a caller
+//! who must pass on a kind or a flag as the byte that it is; [`Picture`] has the same calls with types.
 //!
-//! What a caller in another language must keep, and nothing else is asked: each pointer is valid for its
-//! length in elements, for reading, and where the parameter is not const for writing; it is aligned, and not
-//! null even where the length is 0; nobody else writes the memory during the call; and what a call writes
-//! overlaps with nothing else that is lent to it. Every value of every number is answered. Here Rust's
-//! borrows ensure all of it: a slice is valid, and `&mut` shares with nobody.
+//! What a caller in another language must keep stands in include/deblock.h. Here Rust's borrows keep all of
+//! it: a slice is valid for its length, aligned, and not null even where it is empty; what is borrowed
+//! mutably is borrowed by nobody else, and does not overlap.
 
-// The arguments are those of the C calls; structs for them are one page up.
-#![allow(clippy::too_many_arguments)]
-
-use crate::{Grids, Planes, Stored};
+use crate::{Grids, Picture, Place};
 
 mod c {
     extern "C" {
@@ -55,87 +51,81 @@ mod c {
     }
 }
 
-/// Strengths of macroblock (x, y) by kind: 0 intra, 1 skip, 2 inter uniform, 3 inter; any other byte is
-/// refused.
-pub fn strengths_kind(w: usize, h: usize, x: usize, y: usize, kind: u8, g: Grids, strengths: &mut [u8]) -> u32 {
+/// Strengths of a macroblock by kind: 0 intra, 1 skip, 2 inter uniform, 3 inter; any other byte is refused.
+pub fn strengths_kind(p: &mut Picture, g: Grids, at: Place, kind: u8) -> u32 {
     // SAFETY: every pointer and length is a slice's, and what is written is borrowed by nobody else.
     unsafe {
         c::deblock_strengths_kind(
-            w, h, x, y, kind,
+            p.size.w, p.size.h, at.x, at.y, kind,
             g.inter.as_ptr(), g.inter.len(), g.nnz.as_ptr(), g.nnz.len(),
             g.ref0.as_ptr(), g.ref0.len(), g.mv0.as_ptr(), g.mv0.len(),
             g.ref1.as_ptr(), g.ref1.len(), g.mv1.as_ptr(), g.mv1.len(),
-            strengths.as_mut_ptr(), strengths.len(),
+            p.strengths.as_mut_ptr(), p.strengths.len(),
         )
     }
 }
 
-/// Strengths of macroblock (x, y) with the flags flat, uniform and 8x8, each set unless 0.
-pub fn strengths_flags(w: usize, h: usize, x: usize, y: usize, flags: [u8; 3], g: Grids, strengths: &mut [u8]) -> u32 {
-    let [flat, uniform, t8] = flags;
+/// Strengths of a macroblock with the flags flat, uniform and 8x8, each set unless 0.
+pub fn strengths_flags(p: &mut Picture, g: Grids, at: Place, [flat, uniform, t8]: [u8; 3]) -> u32 {
     // SAFETY: as above.
     unsafe {
         c::deblock_strengths_flags(
-            w, h, x, y, flat, uniform, t8,
+            p.size.w, p.size.h, at.x, at.y, flat, uniform, t8,
             g.inter.as_ptr(), g.inter.len(), g.nnz.as_ptr(), g.nnz.len(),
             g.ref0.as_ptr(), g.ref0.len(), g.mv0.as_ptr(), g.mv0.len(),
             g.ref1.as_ptr(), g.ref1.len(), g.mv1.as_ptr(), g.mv1.len(),
-            strengths.as_mut_ptr(), strengths.len(),
+            p.strengths.as_mut_ptr(), p.strengths.len(),
         )
     }
 }
 
-/// Strengths of macroblock (x, y) from the grids and the 8x8 flag alone.
-pub fn strengths(w: usize, h: usize, x: usize, y: usize, t8: u8, g: Grids, strengths: &mut [u8]) -> u32 {
+/// Strengths of a macroblock from the grids and the 8x8 flag alone, which is set unless 0.
+pub fn strengths(p: &mut Picture, g: Grids, at: Place, t8: u8) -> u32 {
     // SAFETY: as above.
     unsafe {
         c::deblock_strengths(
-            w, h, x, y, t8,
+            p.size.w, p.size.h, at.x, at.y, t8,
             g.inter.as_ptr(), g.inter.len(), g.nnz.as_ptr(), g.nnz.len(),
             g.ref0.as_ptr(), g.ref0.len(), g.mv0.as_ptr(), g.mv0.len(),
             g.ref1.as_ptr(), g.ref1.len(), g.mv1.as_ptr(), g.mv1.len(),
-            strengths.as_mut_ptr(), strengths.len(),
+            p.strengths.as_mut_ptr(), p.strengths.len(),
         )
     }
 }
 
-/// Filters a whole picture; the offsets are A, B and chroma.
-pub fn frame(w: usize, h: usize, [a, b, chroma]: [i32; 3], p: Planes, s: Stored) -> u32 {
+/// Filters the whole picture.
+pub fn frame(p: &mut Picture) -> u32 {
     // SAFETY: as above; the three planes are borrowed apart from each other.
     unsafe {
         c::deblock_frame(
-            w, h, a, b, chroma,
+            p.size.w, p.size.h, p.offsets.a, p.offsets.b, p.offsets.chroma,
             p.luma.as_mut_ptr(), p.luma.len(), p.u.as_mut_ptr(), p.u.len(), p.v.as_mut_ptr(), p.v.len(),
-            s.strengths.as_ptr(), s.strengths.len(), s.qps.as_ptr(), s.qps.len(), s.t8s.as_ptr(), s.t8s.len(),
+            p.strengths.as_ptr(), p.strengths.len(), p.qps.as_ptr(), p.qps.len(), p.t8s.as_ptr(), p.t8s.len(),
         )
     }
 }
 
-/// Filters the macroblock rows first to last, last not among them.
-pub fn rows(
-    w: usize, h: usize, first: usize, last: usize, [a, b, chroma]: [i32; 3], p: Planes, s: Stored,
-) -> u32 {
+/// Filters the macroblock rows from `first` on and before `last`.
+pub fn rows(p: &mut Picture, first: usize, last: usize) -> u32 {
     // SAFETY: as above.
     unsafe {
         c::deblock_rows(
-            w, h, first, last, a, b, chroma,
+            p.size.w, p.size.h, first, last, p.offsets.a, p.offsets.b, p.offsets.chroma,
             p.luma.as_mut_ptr(), p.luma.len(), p.u.as_mut_ptr(), p.u.len(), p.v.as_mut_ptr(), p.v.len(),
-            s.strengths.as_ptr(), s.strengths.len(), s.qps.as_ptr(), s.qps.len(), s.t8s.as_ptr(), s.t8s.len(),
+            p.strengths.as_ptr(), p.strengths.len(), p.qps.as_ptr(), p.qps.len(), p.t8s.as_ptr(), p.t8s.len(),
         )
     }
 }
 
-/// Filters macroblock (x, y), if it is ready, and marks it.
-pub fn visit(
-    w: usize, h: usize, x: usize, y: usize, [a, b, chroma]: [i32; 3], p: Planes, s: Stored, marks: &mut [u8],
-) -> u32 {
+/// Filters a macroblock, if it is ready, and marks it.
+pub fn visit(p: &mut Picture, at: Place) -> u32 {
     // SAFETY: as above; the marks are borrowed apart from the planes.
     unsafe {
         c::deblock_visit(
-            w, h, x, y, a, b, chroma,
+            p.size.w, p.size.h, at.x, at.y, p.offsets.a, p.offsets.b, p.offsets.chroma,
             p.luma.as_mut_ptr(), p.luma.len(), p.u.as_mut_ptr(), p.u.len(), p.v.as_mut_ptr(), p.v.len(),
-            s.strengths.as_ptr(), s.strengths.len(), s.qps.as_ptr(), s.qps.len(), s.t8s.as_ptr(), s.t8s.len(),
-            marks.as_mut_ptr(), marks.len(),
+            p.strengths.as_ptr(), p.strengths.len(), p.qps.as_ptr(), p.qps.len(), p.t8s.as_ptr(), p.t8s.len(),
+            p.marks.as_mut_ptr(), p.marks.len(),
         )
     }
 }

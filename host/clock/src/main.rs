@@ -1,4 +1,4 @@
-//! The clock of request [13]: whole pictures of 720 by 576 through the archive and through the Rust original.
+//! The clock: whole pictures of 720 by 576 through the archive and through the Rust original.
 //!
 //! Both are optimised builds. Each picture is filtered in every way, one after the other, in turn first; its
 //! planes are copied and strengths converted before the clock starts; the clock is the thread's CPU time,
@@ -16,8 +16,7 @@ use std::process::ExitCode;
 use ways::Way;
 
 /// What is timed, and the most that the whole-picture call may take of the original's time: a tenth to a
-/// sixth above what docs/SPEED.md has for the slower kind of machine, and far below the 1.5 that request [13]
-/// allows.
+/// sixth above what docs/SPEED.md has for the slower kind of machine, and far below the 1.5 asked for.
 const SUBJECTS: [Subject; 4] = [
     Subject { name: "intra", content: Content::Intra, look: CODED, bound: 0.30 },
     Subject { name: "mixed", content: Content::Mixed, look: CODED, bound: 0.34 },
@@ -44,8 +43,8 @@ struct Subject {
 }
 
 const HELP: &str = "clock [PICTURES]: the proved archive against the Rust original on pictures of 720 by 576
-with stored strengths, PICTURES of each content (300 or more; 300 without). Ratios are medians over the pictures, each
-of two times on one picture. Exit status 0: every ratio to the original is within its bound.";
+with stored strengths, PICTURES of each content (300 or more; 300 without). Ratios are medians over the
+pictures, each of two times on one picture. Exit status 0: every ratio to the original is within its bound.";
 
 fn main() -> ExitCode {
     let words: Vec<String> = std::env::args().skip(1).collect();

@@ -2,7 +2,7 @@
 
 use crate::cpu_time::seconds;
 use crate::picture::{Picture, H, W};
-use deblock::{Answer, Offsets, Place, Planes, Size, Stored};
+use deblock::{Place, Size};
 
 const SIZE: Size = Size { w: W, h: H };
 
@@ -23,41 +23,42 @@ impl Way {
 
     /// The seconds that filtering takes. What it needs beside the planes is made before the clock starts.
     pub fn seconds(self, picture: &Picture, planes: &mut [Vec<u8>; 3]) -> f64 {
-        let Picture { strengths, qps, t8s, .. } = picture;
-        let stored = Stored { strengths, qps, t8s };
-        let mut order: Vec<Place> = (0..H).flat_map(|y| (0..W).map(move |x| Place { x, y })).collect();
         match self {
-            Way::Original => {
-                let stored = oracle::Stored::new(W, H, strengths, qps, t8s);
-                let [luma, u, v] = planes;
-                let offsets = oracle::Offsets { a: 0, b: 0, chroma: 0 };
-                timed(|| stored.filter_frame(oracle::Planes { luma, u, v }, offsets))
-            }
-            Way::Whole => {
-                let planes = lent(planes);
-                timed(|| assert_eq!(deblock::frame(SIZE, Offsets::default(), planes, stored), Answer::Done))
-            }
-            Way::Raster => visits(&order, planes, stored),
+            Way::Original => original(picture, planes),
+            Way::Whole => archive(picture, planes, |lent| assert!(lent.frame().is_done())),
+            Way::Raster => visits(picture, planes, SIZE.places().collect()),
             Way::Wavefront => {
+                let mut order: Vec<Place> = SIZE.places().collect();
                 order.sort_by_key(|p| p.x + 2 * p.y);
-                visits(&order, planes, stored)
+                visits(picture, planes, order)
             }
         }
     }
 }
 
-fn visits(order: &[Place], planes: &mut [Vec<u8>; 3], stored: Stored) -> f64 {
-    let mut marks = vec![0; W * H];
-    timed(|| {
-        for &at in order {
-            let answer = deblock::visit(SIZE, at, Offsets::default(), lent(planes), stored, &mut marks);
-            assert_eq!(answer, Answer::Done);
-        }
-    })
+fn original(picture: &Picture, [luma, u, v]: &mut [Vec<u8>; 3]) -> f64 {
+    let stored = oracle::Stored::new(W, H, &picture.strengths, &picture.qps, &picture.t8s);
+    let offsets = oracle::Offsets { a: 0, b: 0, chroma: 0 };
+    timed(|| stored.filter_frame(oracle::Planes { luma, u, v }, offsets))
 }
 
-fn lent([luma, u, v]: &mut [Vec<u8>; 3]) -> Planes<'_> {
-    Planes { luma, u, v }
+fn visits(picture: &Picture, planes: &mut [Vec<u8>; 3], order: Vec<Place>) -> f64 {
+    archive(picture, planes, |lent| order.iter().for_each(|&at| assert!(lent.visit(at).is_done())))
+}
+
+fn archive(picture: &Picture, [luma, u, v]: &mut [Vec<u8>; 3], work: impl FnOnce(&mut deblock::Picture)) -> f64 {
+    let mut lent = deblock::Picture {
+        size: SIZE,
+        luma,
+        u,
+        v,
+        strengths: &mut picture.strengths.clone(),
+        qps: &picture.qps,
+        t8s: &picture.t8s,
+        marks: &mut vec![0; W * H],
+        ..deblock::Picture::default()
+    };
+    timed(|| work(&mut lent))
 }
 
 fn timed(work: impl FnOnce()) -> f64 {

@@ -1,5 +1,5 @@
-//! What crates/arrivals must print: the same pictures and orders, each visit answered by document 01's table
-//! and carried out by the Rust original.
+//! What crates/arrivals must print: the same pictures and orders, each visit answered by the table of
+//! refusals and carried out by the Rust original.
 
 use crate::expect::{expect, marked_in_raster_order};
 use crate::request::{Call, Request};

@@ -1,4 +1,4 @@
-//! What a call must answer and leave behind: the number by document 01's table, the rest by the Rust
+//! What a call must answer and leave behind: the number by the table of refusals, the rest by the Rust
 //! original.
 
 use crate::request::{Call, Request};

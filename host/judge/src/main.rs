@@ -33,13 +33,13 @@ const HELP: &str = "judge: compares the proved archive with the Rust original, e
   judge long SECONDS [SEED]  all small cases, then rounds until the time is over
   judge round SEED           one round again, to replay a mismatch
   judge mutants              runs wrong filters through the same comparison: all must be caught
-  judge differences          prints the tables of docs/DIFFERENCES.md, having run each row: what the original does
-                             where the archive refuses, and the other differences
+  judge differences          prints the tables of docs/DIFFERENCES.md, having run each row: what the
+                             original does where the archive refuses, and the other differences
   judge arrivals             prints what crates/arrivals must print
   judge record               writes the original's answers to 120 small pictures, for crates/recordings
 
-Exit status 0: all equal. 1: a mismatch, printed with its seed and the smallest case found, or a difference that is
-not as its row says. 2: wrong arguments.";
+Exit status 0: all equal. 1: a mismatch, printed with its seed and the smallest case found, or a difference
+that is not as its row says. 2: wrong arguments.";
 
 const ROUNDS: u64 = 80;
 

@@ -1,4 +1,4 @@
-//! The rules of document 01 as a plain program, which can be told to make one mistake.
+//! The rules of docs/RULES.md as a plain program, which can be told to make one mistake.
 //!
 //! Without a mistake it is a second opinion beside the Rust original: `judge mutants` first asks that the two
 //! agree.

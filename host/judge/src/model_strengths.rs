@@ -1,4 +1,4 @@
-//! The model's strengths: clause 8.7.2.1 as document 01 words it.
+//! The model's strengths: clause 8.7.2.1 as docs/RULES.md, "Strengths", words it.
 
 use crate::mistakes::Mistake;
 use crate::model::Model;

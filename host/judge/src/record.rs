@@ -21,7 +21,7 @@ fn recording(seed: u64) -> Vec<u8> {
     let (w, h) = make::size(&mut r, AREA);
     let before = make::picture(&mut r, Call::Frame, w, h);
     // every third has strengths that no grids give, 4 on inner edges among them
-    if seed % 3 == 0 {
+    if seed.is_multiple_of(3) {
         return write(&before, None);
     }
     let mut grids = make::grids(&mut r, Call::Flagless, w, h);

@@ -1,4 +1,4 @@
-//! Damaged requests: every check alone and in pairs, in the order of document 01's table.
+//! Damaged requests: every check alone and in pairs, in the order of the table of refusals.
 
 use crate::make;
 use crate::request::{Buffer, Call, Lent, Request, CALLS};

@@ -101,7 +101,7 @@ impl Request {
             .or_else(|| differs("ref1", &self.ref1, &other.ref1))
             .or_else(|| differs("mv1", &self.mv1, &other.mv1))
             .or_else(|| differs("strengths", &self.strengths, &other.strengths))
-            .or_else(|| differs("y", &self.luma, &other.luma))
+            .or_else(|| differs("luma", &self.luma, &other.luma))
             .or_else(|| differs("u", &self.u, &other.u))
             .or_else(|| differs("v", &self.v, &other.v))
             .or_else(|| differs("qps", &self.qps, &other.qps))

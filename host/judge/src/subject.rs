@@ -2,7 +2,7 @@
 
 use crate::fence::{Field, Side};
 use crate::request::{Call, Request};
-use deblock::{wire, Grids, Planes, Stored};
+use deblock::{wire, Grids, Offsets, Picture, Place, Size};
 use std::cell::{Cell, RefCell};
 
 pub trait Subject {
@@ -37,21 +37,27 @@ impl Subject for Archive {
         let (qps, t8s) = (f10.lend(&mut r.qps, side), f11.lend(&mut r.t8s, side));
         let mut marks = f12.lend(&mut r.marks, side);
 
-        let (w, h, x, y) = (r.w, r.h, r.x, r.y);
+        let [a, b, chroma] = r.offsets;
+        let mut picture = Picture {
+            size: Size { w: r.w, h: r.h },
+            offsets: Offsets { a, b, chroma },
+            luma: &mut luma,
+            u: &mut u,
+            v: &mut v,
+            strengths: &mut strengths,
+            qps: &qps,
+            t8s: &t8s,
+            marks: &mut marks,
+        };
         let grids = Grids { inter: &inter, nnz: &nnz, ref0: &ref0, mv0: &mv0, ref1: &ref1, mv1: &mv1 };
-        let flags = [r.flat, r.uniform, r.t8];
+        let at = Place { x: r.x, y: r.y };
         match r.call {
-            Call::Kind => return wire::strengths_kind(w, h, x, y, r.kind, grids, &mut strengths),
-            Call::Flags => return wire::strengths_flags(w, h, x, y, flags, grids, &mut strengths),
-            Call::Flagless => return wire::strengths(w, h, x, y, r.t8, grids, &mut strengths),
-            _ => {}
-        }
-        let planes = Planes { luma: &mut luma, u: &mut u, v: &mut v };
-        let stored = Stored { strengths: &strengths, qps: &qps, t8s: &t8s };
-        match r.call {
-            Call::Frame => wire::frame(w, h, r.offsets, planes, stored),
-            Call::Rows => wire::rows(w, h, r.first, r.last, r.offsets, planes, stored),
-            _ => wire::visit(w, h, x, y, r.offsets, planes, stored, &mut marks),
+            Call::Kind => wire::strengths_kind(&mut picture, grids, at, r.kind),
+            Call::Flags => wire::strengths_flags(&mut picture, grids, at, [r.flat, r.uniform, r.t8]),
+            Call::Flagless => wire::strengths(&mut picture, grids, at, r.t8),
+            Call::Frame => wire::frame(&mut picture),
+            Call::Rows => wire::rows(&mut picture, r.first, r.last),
+            Call::Visit => wire::visit(&mut picture, at),
         }
     }
 }

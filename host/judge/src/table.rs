@@ -1,7 +1,7 @@
-//! Document 01's table "Numbers a call returns", written down on its own: no line of it comes from the
+//! The table of refusals, docs/RULES.md, "Answers", written down on its own: no line of it comes from the
 //! archive.
 //!
-//! A check may use what the checks above it have excluded, as in the document. It looks at what the call
+//! A check may use what the checks above it have excluded, as in the rules. It looks at what the call
 //! takes and, from no. 7 on, at what the call reads.
 
 use crate::request::{Call, Request};
@@ -230,7 +230,7 @@ mod tests {
     }
 
     #[test]
-    fn p12_of_document_01() {
+    fn p12_of_the_rules() {
         let mut q = Request::new(Call::Visit, 2, 2);
         q.y = 1;
         q.luma = vec![0; 1024].into();

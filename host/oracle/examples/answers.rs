@@ -1,6 +1,6 @@
 //! Prints what crates/answers must print: the original's strengths and pictures for the same inputs. The
-//! original refuses nothing, so the four refused calls are written here as document 01 has them: their
-//! number, and everything as it was.
+//! original refuses nothing, so the four refused calls are written here as docs/RULES.md, "Answers", has
+//! them: their number, and everything as it was.
 use oracle::{Blocks, Grids, Offsets, Planes, Stored};
 
 fn numbers(s: &[u8]) {

@@ -2,8 +2,8 @@
 //! for strengths a copy with one module declared after its text.
 //!
 //! The first part is the thinnest shim in which its two files compile; nothing in it can change a result. The
-//! second part puts document 01's layouts into the original's types and back. The original has no refusals:
-//! outside document 01's domain it computes something or panics, and `judge differences` shows which.
+//! second part puts the layouts of docs/RULES.md into the original's types and back. The original has no
+//! refusals: where the rules refuse it computes something or panics, and `judge differences` shows which.
 
 extern crate alloc;
 
@@ -67,7 +67,7 @@ pub use strengths::{Blocks, Grids};
 mod tests {
     use super::*;
 
-    /// Document 01's P4, P5 and P8 through a whole picture of the original: the shim has changed nothing.
+    /// P4, P5 and P8 of docs/RULES.md through a whole picture of the original: the shim has changed nothing.
     #[test]
     fn lines_of_the_proved_table() {
         let filtered = |left: u8, right: u8, strength: u8| {

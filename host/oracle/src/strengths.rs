@@ -2,7 +2,7 @@
 
 use crate::probed::{self, BlockInfo, MbBs, MbKind};
 
-/// The six 4x4 grids in document 01's layouts.
+/// The six 4x4 grids in the layouts of docs/RULES.md, "Sizes and layouts".
 #[derive(Clone, Copy)]
 pub struct Grids<'a> {
     pub inter: &'a [u8],
@@ -85,7 +85,7 @@ impl Blocks {
     }
 }
 
-/// Vertical edges first, four segments each, then horizontal ones: document 01's 32 bytes.
+/// Vertical edges first, four segments each, then horizontal ones: the 32 bytes of a macroblock.
 fn bytes(m: MbBs) -> [u8; 32] {
     let mut out = [0; 32];
     for (to, from) in out.iter_mut().zip(m.v.iter().chain(&m.h).flatten()) {

@@ -4,7 +4,7 @@
 //! that is not the paint tells how deep it went; a thread that calls nothing tells what of that is the
 //! thread's own. Twice, with two paints, since a byte that the call wrote may look like one.
 
-use deblock::{Answer, Grids, Kind, Offsets, Place, Planes, Size, Stored};
+use deblock::{Flags, Grids, Kind, Picture, Place, Size};
 use std::ffi::c_void;
 use std::mem::MaybeUninit;
 
@@ -59,26 +59,26 @@ fn deepest(mut work: impl FnMut() + Send) -> usize {
     [0xA5, 0x3C].map(|paint| touched(paint, &mut work)).into_iter().max().expect("there are two")
 }
 
-/// A picture of two by two macroblocks in which every edge that exists is filtered in both passes.
-struct Picture {
-    planes: [Vec<u8>; 3],
-    strengths: Vec<u8>,
-    marks: Vec<u8>,
-}
-
 const SIZE: Size = Size { w: 2, h: 2 };
+const LAST: Place = Place { x: 1, y: 1 };
 const QPS: [u8; 4] = [40; 4];
 
-impl Picture {
-    fn new() -> Picture {
+/// Memory for a picture of two by two macroblocks in which every edge that exists is filtered in both passes.
+struct Memory {
+    planes: [Vec<u8>; 3],
+    strengths: Vec<u8>,
+    marks: [u8; 4],
+}
+
+impl Memory {
+    fn new() -> Memory {
         let side = |n: usize| (0..4 * n * n).map(|i| (90 + i % 9) as u8).collect();
-        Picture { planes: [side(16), side(8), side(8)], strengths: [4, 3, 2, 1].repeat(32), marks: vec![0; 4] }
+        Memory { planes: [side(16), side(8), side(8)], strengths: [4, 3, 2, 1].repeat(32), marks: [0; 4] }
     }
 
-    fn lent(&mut self) -> (Planes<'_>, Stored<'_>, &mut [u8]) {
-        let [luma, u, v] = &mut self.planes;
-        let stored = Stored { strengths: &self.strengths, qps: &QPS, t8s: &[] };
-        (Planes { luma, u, v }, stored, &mut self.marks)
+    fn lent(&mut self) -> Picture<'_> {
+        let Memory { planes: [luma, u, v], strengths, marks } = self;
+        Picture { size: SIZE, luma, u, v, strengths, qps: &QPS, marks, ..Picture::default() }
     }
 }
 
@@ -91,32 +91,20 @@ fn main() {
 }
 
 fn filtering(show: &dyn Fn(&str, usize)) {
-    let mut p = Picture::new();
-    show("whole picture", {
-        deepest(|| {
-            let (planes, stored, _) = p.lent();
-            assert_eq!(deblock::frame(SIZE, Offsets::default(), planes, stored), Answer::Done);
-        })
-    });
-    show("rows", {
-        deepest(|| {
-            let (planes, stored, _) = p.lent();
-            assert_eq!(deblock::rows(SIZE, 0..2, Offsets::default(), planes, stored), Answer::Done);
-        })
-    });
+    let mut memory = Memory::new();
+    let mut p = memory.lent();
+    show("whole picture", deepest(|| assert!(p.frame().is_done())));
+    show("rows", deepest(|| assert!(p.rows(0..2).is_done())));
     show("visit", {
         deepest(|| {
-            let (planes, stored, marks) = p.lent();
-            marks.copy_from_slice(&[1, 1, 1, 0]);
-            let at = Place { x: 1, y: 1 };
-            assert_eq!(deblock::visit(SIZE, at, Offsets::default(), planes, stored, marks), Answer::Done);
+            p.marks.copy_from_slice(&[1, 1, 1, 0]);
+            assert!(p.visit(LAST).is_done());
         })
     });
-    let strengths = p.strengths.clone();
-    let stored = oracle::Stored::new(SIZE.w, SIZE.h, &strengths, &QPS, &[]);
+    let stored = oracle::Stored::new(SIZE.w, SIZE.h, &memory.strengths, &QPS, &[]);
     show("the Rust's whole picture", {
         deepest(|| {
-            let [luma, u, v] = &mut p.planes;
+            let [luma, u, v] = &mut memory.planes;
             stored.filter_frame(oracle::Planes { luma, u, v }, oracle::Offsets { a: 0, b: 0, chroma: 0 });
         })
     });
@@ -126,15 +114,9 @@ fn strengths(show: &dyn Fn(&str, usize)) {
     let (inter, nnz, ref0, ref1) = ([1; 64], [0; 64], [5; 64], [6; 64]);
     let mv0: Vec<i16> = (0..128).collect();
     let grids = Grids { inter: &inter, nnz: &nnz, ref0: &ref0, mv0: &mv0, ref1: &ref1, mv1: &mv0 };
-    let (at, mut out) = (Place { x: 1, y: 1 }, vec![0; 128]);
-    show("strengths by kind", {
-        deepest(|| assert_eq!(deblock::strengths_by_kind(SIZE, at, Kind::Inter, grids, &mut out), Answer::Done))
-    });
-    show("strengths by flags", {
-        deepest(|| {
-            let flags = (false, false, false);
-            assert_eq!(deblock::strengths_by_flags(SIZE, at, flags, grids, &mut out), Answer::Done)
-        })
-    });
-    show("strengths", deepest(|| assert_eq!(deblock::strengths(SIZE, at, false, grids, &mut out), Answer::Done)));
+    let mut memory = Memory::new();
+    let mut p = memory.lent();
+    show("strengths by kind", deepest(|| assert!(p.derive_by_kind(grids, LAST, Kind::Inter).is_done())));
+    show("strengths by flags", deepest(|| assert!(p.derive_by_flags(grids, LAST, Flags::default()).is_done())));
+    show("strengths", deepest(|| assert!(p.derive(grids, LAST, false).is_done())));
 }

@@ -1,0 +1,103 @@
+//! What a call is told and lent beside the picture.
+
+/// Width and height of a picture in macroblocks: each 1 to 256, their product at most 36,864.
+#[derive(Clone, Copy, PartialEq, Eq, Debug, Default)]
+pub struct Size {
+    /// Macroblocks in a row.
+    pub w: usize,
+    /// Rows of macroblocks.
+    pub h: usize,
+}
+
+impl Size {
+    /// How many macroblocks the picture has; at most the largest number there is.
+    pub fn macroblocks(self) -> usize {
+        self.w.saturating_mul(self.h)
+    }
+
+    /// Where a macroblock of the picture stands in raster order: its entry in QPs, flags and marks.
+    pub fn index(self, at: Place) -> usize {
+        at.y * self.w + at.x
+    }
+
+    /// All macroblocks in raster order, which is the order of their indices.
+    pub fn places(self) -> impl Iterator<Item = Place> {
+        (0..self.h).flat_map(move |y| (0..self.w).map(move |x| Place { x, y }))
+    }
+}
+
+/// A macroblock's column and row, from 0.
+#[derive(Clone, Copy, PartialEq, Eq, PartialOrd, Ord, Hash, Debug)]
+pub struct Place {
+    /// The column.
+    pub x: usize,
+    /// The row.
+    pub y: usize,
+}
+
+/// The three offsets of a picture, each -12 to 12.
+#[derive(Clone, Copy, PartialEq, Eq, Debug, Default)]
+pub struct Offsets {
+    /// FilterOffsetA: twice `slice_alpha_c0_offset_div2`.
+    pub a: i32,
+    /// FilterOffsetB: twice `slice_beta_offset_div2`.
+    pub b: i32,
+    /// `chroma_qp_index_offset`.
+    pub chroma: i32,
+}
+
+/// What the caller knows of a macroblock, which then has a 4x4 transform. A kind that is not true of the
+/// grids is refused.
+#[derive(Clone, Copy, PartialEq, Eq, Debug)]
+pub enum Kind {
+    /// All 16 blocks are intra.
+    Intra = 0,
+    /// All 16 blocks are inter with the same motion and no coefficients.
+    Skip = 1,
+    /// All 16 blocks are inter with the same motion.
+    InterUniform = 2,
+    /// All 16 blocks are inter.
+    Inter = 3,
+}
+
+/// What the caller knows of a macroblock, by flags. A set `flat` or `uniform` that is not true of the grids
+/// is refused; either may be left unset where it is true.
+#[derive(Clone, Copy, PartialEq, Eq, Debug, Default)]
+pub struct Flags {
+    /// Uniform, and all 16 counts are 0.
+    pub flat: bool,
+    /// All 16 blocks are inter with the same motion.
+    pub uniform: bool,
+    /// The transform is 8x8.
+    pub t8: bool,
+}
+
+/// The 4x4 grids of a picture, in rows of 4 * W blocks. The two grids of list 1 may both be left empty: no
+/// block uses list 1.
+#[derive(Clone, Copy, Debug, Default)]
+pub struct Grids<'a> {
+    /// 1 if inter, else 0; 16 a macroblock.
+    pub inter: &'a [u8],
+    /// Counts of luma coefficients; 16 a macroblock.
+    pub nnz: &'a [u8],
+    /// References in list 0 by the number of the picture, -1 for none, as in intra blocks; 16 a macroblock.
+    pub ref0: &'a [i8],
+    /// Motion in list 0 in quarter samples, x then y of each block; 32 a macroblock.
+    pub mv0: &'a [i16],
+    /// References in list 1.
+    pub ref1: &'a [i8],
+    /// Motion in list 1.
+    pub mv1: &'a [i16],
+}
+
+#[cfg(test)]
+mod tests {
+    use super::*;
+
+    #[test]
+    fn places_are_in_the_order_of_indices() {
+        let size = Size { w: 3, h: 2 };
+        let indices: Vec<usize> = size.places().map(|at| size.index(at)).collect();
+        assert_eq!(indices, (0..size.macroblocks()).collect::<Vec<usize>>());
+    }
+}

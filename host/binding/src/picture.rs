@@ -1,0 +1,198 @@
+//! A picture and the six calls on it.
+
+use crate::{wire, Answer, Flags, Grids, Kind, Offsets, Place, Size};
+use std::ops::Range;
+
+/// What stays the same throughout a picture, and the memory that its calls are lent.
+///
+/// A call is lent only what it reads and writes. A member that none of the calls made needs may be left out:
+/// `..Picture::default()` leaves it empty, which means that it is not lent. Written so, a caller's source
+/// stays good when a later version adds a member; where all are set, clippy's `needless_update` is to be
+/// allowed.
+///
+/// Between the visits of a picture its size and offsets stay, and the calls alone write marks. What belongs to
+/// a macroblock, its samples, QP, flag and strengths, may be written until its own visit and not after it.
+/// Before that let QPs, flags and strengths be 0: a visit also looks at QPs to the left and above. To write
+/// them the caller drops the `Picture`, which is only borrows, and makes another over the same buffers.
+///
+/// Lengths are checked by each call, and a wrong one is refused; with n macroblocks they are as said below.
+#[derive(Debug, Default)]
+pub struct Picture<'a> {
+    /// Width and height in macroblocks.
+    pub size: Size,
+    /// The offsets that filtering adds.
+    pub offsets: Offsets,
+    /// 256 n samples in rows of 16 * W, which filtering writes.
+    pub luma: &'a mut [u8],
+    /// 64 n samples in rows of 8 * W, which filtering writes.
+    pub u: &'a mut [u8],
+    /// The same for V.
+    pub v: &'a mut [u8],
+    /// 32 n, each 0 to 4. The strength calls write those of one macroblock; filtering reads them.
+    pub strengths: &'a mut [u8],
+    /// n luma QPs, 0 to 51.
+    pub qps: &'a [u8],
+    /// n 8x8 flags, 0 or 1. If it is empty, no flag is set.
+    pub t8s: &'a [u8],
+    /// n marks, 1 where a macroblock was visited, all 0 at the start. Visits write them.
+    pub marks: &'a mut [u8],
+}
+
+impl Picture<'_> {
+    /// Filters the whole picture, once: it neither reads nor sets marks, and called again it filters again.
+    pub fn frame(&mut self) -> Answer {
+        Answer::of(wire::frame(self))
+    }
+
+    /// Filters the macroblock rows from `rows.start` on and before `rows.end`. Each row is filtered once, from
+    /// the top; that gives the planes of [`Picture::frame`], and another order may not. No mark is read or set.
+    pub fn rows(&mut self, rows: Range<usize>) -> Answer {
+        Answer::of(wire::rows(self, rows.start, rows.end))
+    }
+
+    /// Filters one macroblock and sets its mark, once its left, upper and upper right neighbours are marked;
+    /// until then it answers [`Answer::NotReady`].
+    pub fn visit(&mut self, at: Place) -> Answer {
+        Answer::of(wire::visit(self, at))
+    }
+
+    /// Writes the 32 strengths of a macroblock of which nothing is known but whether its transform is 8x8. It
+    /// reads the grids of the macroblock and the nearest blocks of its left and upper neighbours, so these have
+    /// to be there: it cannot tell a block that has not arrived from one that has.
+    pub fn derive(&mut self, grids: Grids, at: Place, t8: bool) -> Answer {
+        Answer::of(wire::strengths(self, grids, at, t8.into()))
+    }
+
+    /// The same for a macroblock that may be known to be flat or uniform.
+    pub fn derive_by_flags(&mut self, grids: Grids, at: Place, flags: Flags) -> Answer {
+        let flags = [flags.flat, flags.uniform, flags.t8].map(u8::from);
+        Answer::of(wire::strengths_flags(self, grids, at, flags))
+    }
+
+    /// The same for a macroblock whose kind is known.
+    pub fn derive_by_kind(&mut self, grids: Grids, at: Place, kind: Kind) -> Answer {
+        Answer::of(wire::strengths_kind(self, grids, at, kind as u8))
+    }
+}
+
+#[cfg(test)]
+mod tests {
+    use super::*;
+
+    /// docs/RULES.md, P12: readiness in a picture of 2 by 2, and of width 1.
+    #[test]
+    fn visits_wait_for_the_upper_right() {
+        for (w, second) in [(2, Answer::NotReady), (1, Answer::Done)] {
+            let n = 2 * w;
+            let mut p = Picture {
+                size: Size { w, h: 2 },
+                luma: &mut vec![90; 256 * n],
+                u: &mut vec![90; 64 * n],
+                v: &mut vec![90; 64 * n],
+                strengths: &mut vec![3; 32 * n],
+                qps: &vec![40; n],
+                marks: &mut vec![0; n],
+                ..Picture::default()
+            };
+            let answers = [(0, 0), (0, 1), (w, 0)].map(|(x, y)| p.visit(Place { x, y }));
+            assert_eq!(answers, [Answer::Done, second, Answer::Outside]);
+        }
+    }
+
+    /// Strength 4 between 60 and 70, in one macroblock.
+    struct Step {
+        luma: Vec<u8>,
+        chroma: [Vec<u8>; 2],
+        strengths: [u8; 32],
+    }
+
+    impl Step {
+        fn new() -> Step {
+            let luma = (0..256).map(|i| if i % 16 < 8 { 60 } else { 70 }).collect();
+            let strengths = std::array::from_fn(|i| if i / 4 == 2 { 4 } else { 0 });
+            Step { luma, chroma: [vec![60; 64], vec![60; 64]], strengths }
+        }
+
+        fn lent<'a>(&'a mut self, qps: &'a [u8]) -> Picture<'a> {
+            let Step { luma, chroma: [u, v], strengths } = self;
+            Picture { size: Size { w: 1, h: 1 }, luma, u, v, strengths, qps, ..Picture::default() }
+        }
+
+        fn is_filtered(&self) -> bool {
+            self.luma[244..252] == [60, 60, 60, 63, 68, 70, 70, 70]
+        }
+    }
+
+    /// docs/RULES.md, P4, through whole pictures and row ranges, at QP 30.
+    #[test]
+    fn a_strong_edge() {
+        for ask in [|p: &mut Picture| p.frame(), |p: &mut Picture| p.rows(0..1)] {
+            let mut step = Step::new();
+            assert!(ask(&mut step.lent(&[30])).is_done() && step.is_filtered());
+        }
+        let mut step = Step::new();
+        assert_eq!(step.lent(&[52]).frame(), Answer::BadQp);
+        assert!(!step.is_filtered());
+    }
+
+    fn is_shared<T: Send + Sync>(_: &T) {}
+
+    #[test]
+    fn two_pictures_on_two_threads() {
+        is_shared(&Picture::default());
+        let (mut one, mut other) = (Step::new(), Step::new());
+        std::thread::scope(|threads| {
+            for mut picture in [one.lent(&[30]), other.lent(&[30])] {
+                threads.spawn(move || assert!(picture.frame().is_done()));
+            }
+        });
+        assert!(one.is_filtered() && other.is_filtered());
+    }
+
+    const AT: Place = Place { x: 0, y: 0 };
+
+    /// What a strength call answers for one macroblock, and the strengths that it leaves where 9 stood.
+    fn one(call: impl Fn(&mut Picture) -> Answer) -> (Answer, [u8; 32]) {
+        let mut strengths = [9; 32];
+        let mut p = Picture { size: Size { w: 1, h: 1 }, strengths: &mut strengths, ..Picture::default() };
+        (call(&mut p), strengths)
+    }
+
+    /// An intra macroblock, a flat one, one with a count, and one with a vector of its own.
+    #[test]
+    fn kinds_are_held_to_the_grids() {
+        let kinds = [Kind::Intra, Kind::Skip, Kind::InterUniform, Kind::Inter];
+        let cases = [(0, 0, 7, "1000"), (1, 0, 7, "0111"), (1, 1, 7, "0011"), (1, 0, 99, "0001")];
+        for (inter, count, vector, truths) in cases {
+            let (mut nnz, mut mv0) = ([0; 16], [7; 32]);
+            (nnz[0], mv0[0]) = (count, vector);
+            let grids = Grids { inter: &[inter; 16], nnz: &nnz, ref0: &[5; 16], mv0: &mv0, ..Grids::default() };
+            let answers = kinds.map(|kind| one(|p| p.derive_by_kind(grids, AT, kind)).0);
+            let done: String = answers.map(|answer| if answer.is_done() { '1' } else { '0' }).iter().collect();
+            assert_eq!(done, truths);
+        }
+    }
+
+    /// A macroblock of one motion with counts, which is uniform and not flat: 2 on the edges inside, of which
+    /// an 8x8 transform has only the middle ones.
+    #[test]
+    fn flags_are_held_to_the_grids() {
+        let grids = Grids { inter: &[1; 16], nnz: &[1; 16], ref0: &[5; 16], mv0: &[7; 32], ..Grids::default() };
+        let by_flags = |flags| one(|p| p.derive_by_flags(grids, AT, flags));
+        let middle = (Answer::Done, std::array::from_fn(|i| if i / 4 % 4 == 2 { 2 } else { 0 }));
+        let inside = (Answer::Done, std::array::from_fn(|i| if i / 4 % 4 == 0 { 0 } else { 2 }));
+        assert_eq!(by_flags(Flags { flat: true, ..Flags::default() }), (Answer::Untrue, [9; 32]));
+        assert_eq!(by_flags(Flags { uniform: true, ..Flags::default() }), inside);
+        assert_eq!(by_flags(Flags { t8: true, ..Flags::default() }), middle);
+        assert_eq!([true, false].map(|t8| one(|p| p.derive(grids, AT, t8))), [middle, inside]);
+    }
+
+    #[test]
+    fn nothing_lent_is_refused() {
+        assert_eq!(Picture::default().frame(), Answer::BadSize);
+        let mut p = Picture { size: Size { w: 1, h: 1 }, ..Picture::default() };
+        assert_eq!([p.frame(), p.derive(Grids::default(), AT, false)], {
+            [Answer::PlaneLength, Answer::MacroblockGridLength]
+        });
+    }
+}

@@ -1,82 +1,85 @@
-//! The demonstration: one picture, thousands of arrival orders, and the order that the old release allowed.
+//! The demonstration: a film of a pipe joint, filtered by its recorder in raster order, by the library in
+//! arrival orders, and as the old release did.
 
-use crate::orders::{self, replay, Order};
-use crate::picture::{difference_image, differences, tell, Picture, Settings};
-use crate::png;
-use crate::progress::Progress;
-use crate::scene;
+mod canvas;
+mod drawing;
+mod films;
+mod recorder;
+mod transform;
+mod wall;
+
+use crate::picture::Picture;
 use crate::trouble::{self, Trouble};
-use deblock::{Answer, Place};
+use deblock::Offsets;
+use films::{Drift, Films, ORDERS, PICTURES};
 use std::path::Path;
 
-const ORDERS: u64 = 3000;
-/// How often each sample is repeated in the pictures, and how much the difference is amplified.
-const ZOOM: usize = 5;
-const TIMES: i32 = 16;
+/// The strongest filter that a stream may ask for: slice_alpha_c0_offset_div2 and slice_beta_offset_div2 6.
+const STRONGEST: Offsets = Offsets { a: 12, b: 12, chroma: 0 };
 
-/// Returns whether all arrival orders gave the same picture.
+/// Returns whether all arrival orders gave the recorder's pictures.
 pub fn run(folder: &Path) -> Result<bool, Trouble> {
-    let (before, settings) = scene::joint();
-    let (w, h) = (before.size.w, before.size.h);
-    println!("A pipe joint with a crack, {w} by {h} macroblocks.");
-
-    let mut right = before.clone();
-    let answer = deblock::frame(before.size, settings.offsets, right.planes(), settings.stored());
-    println!("Whole picture: {answer}; the filter changed {} samples.", differences(&before, &right).len());
-
-    let equal = arrivals(&before, &settings, &right);
-    let old = old_rule(&before, &settings, &orders::columns(before.size));
-    println!("Down the columns, as the old rule allowed (it did not wait for the upper right neighbour):");
-    tell(&differences(&right, &old));
-    let asked = replay(&before, &settings, &orders::columns(before.size), false);
-    println!("Asked for in that order, the library answers {}.", asked.answers());
-
-    std::fs::create_dir_all(folder).map_err(|e| Trouble::in_file(folder, e))?;
-    let difference = difference_image(&right, &old, TIMES);
-    let pictures =
-        [("before", &before.luma), ("right", &right.luma), ("old-rule", &old.luma), ("difference", &difference)];
-    for (name, samples) in pictures {
-        let image = png::grey(ZOOM * 16 * w, ZOOM * 16 * h, &png::enlarge(16 * w, samples, ZOOM));
-        trouble::write(&folder.join(format!("{name}.png")), &image)?;
-    }
-    let folder = folder.canonicalize().unwrap_or(folder.to_path_buf());
-    println!("Pictures: {}/before.png, right.png, old-rule.png, difference.png", folder.display());
-    println!("(difference: right against old rule, {TIMES} times as large; grey where they are equal).");
-    Ok(equal)
+    let (w, h) = (wall::SIZE.w, wall::SIZE.h);
+    println!(
+        "A crawler passes a pipe joint with a fine crack: {PICTURES} pictures of {w} by {h} macroblocks. The first is
+intra. Each other one is the last filtered picture, moved on, plus the residual that the recorder sent, which
+was made against its own pictures. So an error stays until the next intra picture, and can grow.
+"
+    );
+    let films = Films::new(STRONGEST);
+    let drift = films.drift();
+    let all = ORDERS * PICTURES as u64;
+    println!(
+        "The library visited each picture in {ORDERS} arrival orders, {} visits refused as not ready and made again
+later: {} of {all} pictures are equal to the recorder's, sample for sample.
+",
+        films.refused, films.equal
+    );
+    tell(&drift);
+    write(folder, &films, &drift)?;
+    Ok(films.equal == all)
 }
 
-/// Filters the picture in many orders by visits; each must give the whole picture's samples.
-fn arrivals(before: &Picture, settings: &Settings, right: &Picture) -> bool {
-    let size = before.size;
-    let mut progress = Progress::new("arrival orders", ORDERS);
-    let (mut equal, mut refused) = (0, 0);
-    let usual = [orders::raster(size), orders::reverse_diagonal(size), orders::columns(size)];
-    let random = (0..ORDERS - usual.len() as u64).map(|seed| orders::random(size, seed));
-    for order in usual.into_iter().chain(random) {
-        let end = replay(before, settings, &order, true);
-        refused += end.answers.get(&Answer::NotReady).copied().unwrap_or(0);
-        equal += (end.picture == *right && end.unvisited() == 0) as u64;
-        progress.step();
+/// Prints how the old release's film goes away from the recorder's.
+fn tell(drift: &[Drift]) {
+    println!(
+        "The old release did not wait for the upper right neighbour, and could go down the columns:
+  picture   samples that differ   by at most"
+    );
+    for (n, d) in drift.iter().enumerate().step_by(6) {
+        println!("  {n:7}   {:19}   {:10}", d.samples, d.largest);
+    }
+    let mild = Films::new(Offsets::default()).drift();
+    println!(
+        "That is with the strongest filter that a stream may ask for, offsets A and B 12. With both 0 the same
+film differs by at most {}.
+",
+        mild.iter().map(|d| d.largest).max().unwrap_or(0)
+    );
+}
+
+/// Writes the drawings, and each film as raw planes.
+fn write(folder: &Path, films: &Films, drift: &[Drift]) -> Result<(), Trouble> {
+    std::fs::create_dir_all(folder).map_err(|e| Trouble::in_file(folder, e))?;
+    let last = PICTURES - 1;
+    let lost = drawing::lost(&films.recorder[last], &films.old[last], last, &drift[last]);
+    trouble::write(&folder.join("lost.png"), &lost)?;
+    trouble::write(&folder.join("drift.png"), &drawing::plot(drift))?;
+    for (name, film) in [("recorder", &films.recorder), ("library", &films.library), ("old-rule", &films.old)] {
+        trouble::write(&folder.join(format!("{name}.yuv")), &planes(film))?;
     }
     println!(
-        "Visited in {ORDERS} arrival orders, {refused} visits refused as not ready and made again later: \
-         {equal} of {ORDERS} pictures are equal to the whole picture's, sample for sample."
+        "In {}: lost.png, the last picture, right and old side by side; drift.png, the difference by
+picture number; recorder.yuv, library.yuv and old-rule.yuv, the films as raw planes, which
+`deblock compare A B --size {}x{}` tells apart.",
+        folder.display(),
+        16 * wall::SIZE.w,
+        16 * wall::SIZE.h
     );
-    equal == ORDERS
+    Ok(())
 }
 
-/// The old release: one macroblock after the other in an order that the library refuses. Each is filtered
-/// through the library as a row in which no other macroblock has any strength.
-fn old_rule(before: &Picture, settings: &Settings, order: &Order) -> Picture {
-    let size = before.size;
-    let mut picture = before.clone();
-    for &Place { x, y } in order {
-        let own = 32 * (y * size.w + x);
-        let mut alone = vec![0; settings.strengths.len()];
-        alone[own..own + 32].copy_from_slice(&settings.strengths[own..own + 32]);
-        let stored = deblock::Stored { strengths: &alone, ..settings.stored() };
-        let answer = deblock::rows(size, y..y + 1, settings.offsets, picture.planes(), stored);
-        assert_eq!(answer, Answer::Done, "the scene is in the domain");
-    }
-    picture
+/// The planes of all pictures end to end.
+fn planes(film: &[Picture]) -> Vec<u8> {
+    film.iter().flat_map(|p| [&p.luma[..], &p.u, &p.v]).collect::<Vec<_>>().concat()
 }

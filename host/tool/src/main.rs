@@ -1,39 +1,46 @@
 //! The command-line tool over the proved deblocking filter.
 
+#[macro_use]
+mod say;
+
+mod beside;
+mod check;
 mod compare;
+mod deflate;
 mod demo;
+mod differences;
+mod image;
+mod options;
+mod orderfile;
 mod orders;
 mod picture;
+mod pictures;
 mod png;
 mod progress;
+mod raw;
 mod recording;
+mod recordings;
 mod replay;
-mod scene;
+mod source;
 mod trouble;
+#[cfg(test)]
+mod version;
 
-use deblock::Size;
-use std::path::{Path, PathBuf};
+use options::Command;
 use std::process::ExitCode;
 use trouble::Trouble;
 
-const HELP: &str = "deblock: the proved H.264 deblocking filter of the survey station, at the command line
+const HELP: &str = include_str!("help.txt");
+/// Version, commit, toolchain and archive, as the build script found them.
+const VERSION: &str = include_str!(concat!(env!("OUT_DIR"), "/version.txt"));
 
-  deblock demo [FOLDER]
-      Filters a picture of a cracked pipe joint in raster order, in thousands of arrival orders, and in an order that
-      the old release allowed; says how they differ; writes PNG pictures to FOLDER (target/demo).
-
-  deblock replay RECORDING [--order FILE] [--once]
-      Checks that the strengths derived from the recording's grids are those in the file. Visits the macroblocks in
-      raster order, by reverse diagonals and in 100 random orders, or in the order of FILE (a line 'x y' a macroblock,
-      # starts a remark). A macroblock that is not ready waits and is visited again; with --once it is not. Prints the
-      answers by number, and compares with the recorder's planes.
-
-  deblock compare A B [--size WxH] [--png FILE]
-      Compares two recordings (their planes after the filter) or files of raw planes (Y, U, V, of WxH pixels, multiples
-      of 16). Says which macroblocks and samples differ and writes the difference as a picture (difference.png).
-
-Exit status: 0 equal, 1 different, 2 cannot read or wrong arguments.
-Recordings are described in crates/recordings/FORMAT.md, answers in docs/ and by the numbers of document 01.";
+/// What the exit status tells.
+pub enum Outcome {
+    Equal = 0,
+    Different = 1,
+    /// A file could not be read or written, or the words are wrong.
+    Failed = 2,
+}
 
 extern "C" {
     fn signal(number: i32, handler: usize) -> usize;
@@ -49,96 +56,21 @@ fn end_with_the_reader() {
 
 fn main() -> ExitCode {
     end_with_the_reader();
-    let words: Vec<String> = std::env::args().skip(1).collect();
-    if words.iter().any(|w| w == "--help" || w == "-h") {
-        println!("{HELP}");
-        return ExitCode::SUCCESS;
-    }
-    match run(words) {
-        Ok(true) => ExitCode::SUCCESS,
-        Ok(false) => ExitCode::from(1),
-        Err(trouble) => {
-            eprintln!("deblock: {trouble}");
-            ExitCode::from(2)
-        }
-    }
+    let outcome = Command::of(std::env::args_os().skip(1).collect()).and_then(run);
+    let outcome = outcome.unwrap_or_else(|trouble| {
+        eprintln!("deblock: {trouble}");
+        Outcome::Failed
+    });
+    ExitCode::from(outcome as u8)
 }
 
-fn run(words: Vec<String>) -> Result<bool, Trouble> {
-    let mut words = words.into_iter();
-    let command = words.next().unwrap_or_default();
-    let mut options = Options::take(words)?;
-    match command.as_str() {
-        "demo" => {
-            let folder = if options.files.is_empty() { "target/demo".into() } else { options.files.remove(0) };
-            options.all_used(0, &[])?;
-            demo::run(&folder)
-        }
-        "replay" => {
-            options.all_used(1, &["--order", "--once"])?;
-            replay::run(&options.files[0], options.value("--order").map(Path::new), options.has("--once"))
-        }
-        "compare" => {
-            options.all_used(2, &["--size", "--png"])?;
-            let size = options.value("--size").map(pixels).transpose()?;
-            let image = options.value("--png").unwrap_or("difference.png");
-            compare::run(&options.files[0], &options.files[1], size, Path::new(image))
-        }
-        "" => Err(Trouble::new("demo, replay or compare? `deblock --help` says more")),
-        other => Err(Trouble::new(format!("{other} is no command; `deblock --help` names them"))),
+fn run(command: Command) -> Result<Outcome, Trouble> {
+    match command {
+        Command::Help => println!("{}", HELP.trim_end()),
+        Command::Version => println!("{}", VERSION.trim_end()),
+        Command::Demo { folder } => return Ok(if demo::run(&folder)? { Outcome::Equal } else { Outcome::Different }),
+        Command::Replay { named, order, once } => return replay::run(&named, order.as_deref(), once),
+        Command::Compare { files: [a, b], extent, image } => return compare::run([&a, &b], extent, image),
     }
-}
-
-/// The words after the command: files, and options with or without a value.
-struct Options {
-    files: Vec<PathBuf>,
-    options: Vec<(String, String)>,
-}
-
-impl Options {
-    fn take(mut words: impl Iterator<Item = String>) -> Result<Options, Trouble> {
-        let (mut files, mut options) = (Vec::new(), Vec::new());
-        while let Some(word) = words.next() {
-            if word == "--once" {
-                options.push((word, String::new()));
-            } else if word.starts_with("--") {
-                let value = words.next().ok_or_else(|| Trouble::new(format!("{word} wants a value")))?;
-                options.push((word, value));
-            } else {
-                files.push(word.into());
-            }
-        }
-        Ok(Options { files, options })
-    }
-
-    /// Complains unless there are just so many files and no other options.
-    fn all_used(&self, files: usize, options: &[&str]) -> Result<(), Trouble> {
-        if self.files.len() != files {
-            let given = self.files.len();
-            return Err(Trouble::new(format!("{files} files are wanted, {given} were given; see `deblock --help`")));
-        }
-        match self.options.iter().find(|(name, _)| !options.contains(&name.as_str())) {
-            Some((name, _)) => Err(Trouble::new(format!("{name} does not belong here; see `deblock --help`"))),
-            None => Ok(()),
-        }
-    }
-
-    fn value(&self, name: &str) -> Option<&str> {
-        self.options.iter().find(|(n, _)| n == name).map(|(_, value)| value.as_str())
-    }
-
-    fn has(&self, name: &str) -> bool {
-        self.value(name).is_some()
-    }
-}
-
-/// "720x576" as a size in macroblocks.
-fn pixels(word: &str) -> Result<Size, Trouble> {
-    let side = |s: &str| s.parse::<usize>().ok();
-    match word.split_once('x').and_then(|(w, h)| side(w).zip(side(h))) {
-        Some((w, h)) if w % 16 == 0 && h % 16 == 0 && (16..=4096).contains(&w) && (16..=4096).contains(&h) => {
-            Ok(Size { w: w / 16, h: h / 16 })
-        }
-        _ => Err(Trouble::new(format!("--size {word}: give it as 720x576, in pixels, multiples of 16 up to 4096"))),
-    }
+    Ok(Outcome::Equal)
 }

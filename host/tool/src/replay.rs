@@ -1,99 +1,107 @@
-//! Replays a recording: strengths from its grids, visits in arrival orders, and the recorder's picture beside
-//! them.
+//! Replays the recordings of files and folders, one after the other, and sums up.
 
-use crate::orders::{self, replay, Order, Replay};
-use crate::picture::{differences, tell};
+use crate::beside::Verdict;
+use crate::check::{self, Plan};
+use crate::orderfile::OrderFile;
 use crate::progress::Progress;
 use crate::recording::Recording;
+use crate::recordings::{self, Recordings};
+use crate::say::counted;
 use crate::trouble::Trouble;
-use deblock::{strengths, Answer, Place};
-use std::path::Path;
+use crate::Outcome;
+use std::path::{Path, PathBuf};
 
-/// Random orders that are tried where none is given.
-const SEEDS: u64 = 100;
-
-/// Returns whether strengths and planes are the recorder's; a picture with unvisited macroblocks is not.
-pub fn run(file: &Path, order: Option<&Path>, once: bool) -> Result<bool, Trouble> {
-    let recording = Recording::read(file)?;
-    let order = order.map(orders::read).transpose()?;
-    let size = recording.before.size;
-    println!("{}: {} by {} macroblocks", file.display(), size.w, size.h);
-    let mut equal = strengths_agree(&recording);
-    match order {
-        Some(order) => equal &= one(&recording, "the given order", &order, once),
-        None => {
-            equal &= one(&recording, "raster order", &orders::raster(size), once);
-            equal &= one(&recording, "reverse diagonals", &orders::reverse_diagonal(size), once);
-            equal &= many(&recording);
-        }
+/// A file of recordings that cannot be read is told of and passed over; an order that cannot be read, or does
+/// not fit a picture, is trouble.
+pub fn run(named: &[PathBuf], order: Option<&Path>, once: bool) -> Result<Outcome, Trouble> {
+    let plan = Plan { given: order.map(OrderFile::read).transpose()?, once };
+    let (mut files, mut troubles) = (Vec::new(), Vec::new());
+    for found in named.iter().map(|name| recordings::files(name)) {
+        found.map_or_else(|trouble| troubles.push(trouble), |more| files.extend(more));
     }
-    println!("{}", if equal { "Nothing differs from the recording." } else { "DIFFERENT from the recording." });
-    Ok(equal)
+    let (alone, progress) = (files.len() == 1, Progress::open("pictures"));
+    let mut tour = Tour { plan, alone, pictures: [0; 3], telling: 0, unread: 0, progress };
+    troubles.into_iter().for_each(|trouble| tour.unread(trouble));
+    for file in files {
+        tour.file(&file)?;
+    }
+    Ok(tour.sum_up())
 }
 
-/// Derives every macroblock's strengths from the grids and compares them with those in the file.
-fn strengths_agree(r: &Recording) -> bool {
-    let size = r.before.size;
-    let mut derived = vec![0; r.settings.strengths.len()];
-    let mut wrong = Vec::new();
-    for (m, at) in orders::raster(size).into_iter().enumerate() {
-        let t8 = r.settings.t8s.get(m) == Some(&1);
-        let answer = strengths(size, at, t8, r.grids(), &mut derived);
-        if answer != Answer::Done {
-            println!("  strengths of ({}, {}): refused with {}: {answer}", at.x, at.y, answer.number());
-        }
-        if derived[32 * m..][..32] != r.settings.strengths[32 * m..][..32] {
-            wrong.push(at);
-        }
-    }
-    match wrong.first() {
-        None => println!("  strengths: all {} macroblocks as in the file", size.w * size.h),
-        Some(at) => println!("  strengths: {} macroblocks differ, the first is ({}, {})", wrong.len(), at.x, at.y),
-    }
-    wrong.is_empty()
+struct Tour {
+    plan: Plan,
+    /// Whether there is one file.
+    alone: bool,
+    /// Those that came out equal, incomplete, different.
+    pictures: [usize; 3],
+    /// Those on which the old release's fault shows.
+    telling: usize,
+    /// Files that could not be read, or not to their end.
+    unread: usize,
+    progress: Progress,
 }
 
-fn one(r: &Recording, name: &str, order: &Order, once: bool) -> bool {
-    let end = replay(&r.before, &r.settings, order, !once);
-    println!("  {name}: {}", end.answers());
-    agrees(r, &end)
-}
-
-fn many(r: &Recording) -> bool {
-    let mut progress = Progress::new("random orders", SEEDS);
-    let mut equal = 0;
-    for seed in 0..SEEDS {
-        let end = replay(&r.before, &r.settings, &orders::random(r.before.size, seed), true);
-        if end.picture == r.after && end.unvisited() == 0 {
-            equal += 1;
-        } else if equal == seed {
-            println!("  the random order of seed {seed} is the first that differs: {}", end.answers());
-            agrees(r, &end);
+impl Tour {
+    fn file(&mut self, file: &Path) -> Result<(), Trouble> {
+        let mut recordings = match Recordings::open(file) {
+            Ok(recordings) => recordings,
+            Err(trouble) => {
+                self.unread(trouble);
+                return Ok(());
+            }
+        };
+        while let Some(next) = recordings.next() {
+            let number = if recordings.only_one() { None } else { Some(recordings.read()) };
+            match next {
+                Ok(recording) => self.picture(file, number, &recording)?,
+                Err(trouble) => self.unread(trouble),
+            }
         }
-        progress.step();
+        Ok(())
     }
-    println!("  random orders, seeds 0 to {}: {equal} of {SEEDS} equal to the recorder's planes", SEEDS - 1);
-    equal == SEEDS
-}
 
-/// Compares with the recorder's planes: a macroblock counts once it, its right and its lower neighbour are
-/// visited.
-fn agrees(r: &Recording, end: &Replay) -> bool {
-    let size = r.before.size;
-    let marked = |x: usize, y: usize| x >= size.w || y >= size.h || end.marks[y * size.w + x] == 1;
-    let is_final = |p: &Place| marked(p.x, p.y) && marked(p.x + 1, p.y) && marked(p.x, p.y + 1);
-    let mut found = differences(&end.picture, &r.after);
-    found.retain(|s| is_final(&Place { x: s.column, y: s.row }));
-    let finals = orders::raster(size).iter().filter(|p| is_final(p)).count();
-    if found.is_empty() && end.unvisited() == 0 {
-        println!("  planes: as the recorder's");
-    } else if found.is_empty() {
-        let (unvisited, all) = (end.unvisited(), end.marks.len());
+    /// Tells all of a picture that is the only one, or that is not equal; else a line. `number` counts from 1
+    /// within a file of several.
+    fn picture(&mut self, file: &Path, number: Option<usize>, r: &Recording) -> Result<(), Trouble> {
+        let report = check::picture(r, &self.plan)?;
+        self.pictures[report.verdict as usize] += 1;
+        self.telling += usize::from(check::shows_the_fault(r));
+        let name = number.map(|n| format!(", picture {n}")).unwrap_or_default();
+        let grids = if r.grids.is_some() { "" } else { ", no grids" };
+        let (w, h, verdict) = (r.before.size.w, r.before.size.h, in_words(report.verdict));
+        println!("{}{name}: {w} by {h} macroblocks{grids}: {verdict}", file.display());
+        if report.verdict != Verdict::Equal || self.alone && number.is_none() {
+            report.lines.iter().for_each(|line| println!("  {line}"));
+        }
+        self.progress.step();
+        Ok(())
+    }
+
+    fn unread(&mut self, trouble: Trouble) {
+        self.unread += 1;
+        eprintln!("deblock: {trouble}");
+    }
+
+    fn sum_up(&self) -> Outcome {
+        let ([equal, incomplete, different], unread) = (self.pictures, self.unread);
+        let all = counted(equal + incomplete + different, "picture");
         println!(
-            "  {unvisited} of {all} macroblocks were never visited; the {finals} that are final are the recorder's"
+            "The old rule, down the columns, gives other planes than the recorder's in {} of {all}.",
+            self.telling
         );
-    } else {
-        tell(&found);
+        println!("Pictures: {equal} equal, {different} different, {incomplete} incomplete. Files not read: {unread}.");
+        match (unread, incomplete + different) {
+            (0, 0) => Outcome::Equal,
+            (0, _) => Outcome::Different,
+            _ => Outcome::Failed,
+        }
     }
-    found.is_empty() && end.unvisited() == 0
+}
+
+fn in_words(verdict: Verdict) -> &'static str {
+    match verdict {
+        Verdict::Equal => "equal",
+        Verdict::Incomplete => "INCOMPLETE",
+        Verdict::Different => "DIFFERENT",
+    }
 }

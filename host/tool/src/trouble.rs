@@ -1,6 +1,8 @@
 //! What stops the tool: which file, where in it, and what is wrong.
 
 use std::fmt;
+use std::fs::File;
+use std::io::{self, Write};
 use std::path::Path;
 
 #[derive(Debug)]
@@ -18,6 +20,10 @@ impl Trouble {
     pub fn at_byte(file: &Path, offset: usize, what: impl fmt::Display) -> Trouble {
         Trouble(format!("{}: at byte {offset}: {what}", file.display()))
     }
+
+    pub fn at_line(file: &Path, line: usize, what: impl fmt::Display) -> Trouble {
+        Trouble(format!("{}: line {line}: {what}", file.display()))
+    }
 }
 
 impl fmt::Display for Trouble {
@@ -30,6 +36,30 @@ pub fn read(file: &Path) -> Result<Vec<u8>, Trouble> {
     std::fs::read(file).map_err(|e| Trouble::in_file(file, e))
 }
 
+/// Writes a whole file, in the place of one that is there.
 pub fn write(file: &Path, bytes: &[u8]) -> Result<(), Trouble> {
-    std::fs::write(file, bytes).map_err(|e| Trouble::in_file(file, e))
+    fill(file, File::create(file), bytes)
+}
+
+/// Writes a whole file where none is.
+pub fn write_new(file: &Path, bytes: &[u8]) -> Result<(), Trouble> {
+    fill(file, File::create_new(file), bytes)
+}
+
+/// What a full disk leaves of the file is removed, unless it is a device.
+fn fill(file: &Path, opened: io::Result<File>, bytes: &[u8]) -> Result<(), Trouble> {
+    let mut to = opened.map_err(|e| Trouble::in_file(file, e))?;
+    to.write_all(bytes).map_err(|e| match remove(file) {
+        Ok(_) => Trouble::in_file(file, e),
+        Err(also) => Trouble::in_file(file, format!("{e}; and what there is of it stays: {also}")),
+    })
+}
+
+/// Removes an ordinary file and says whether there was one.
+pub fn remove(file: &Path) -> Result<bool, Trouble> {
+    if !file.is_file() {
+        return Ok(false);
+    }
+    std::fs::remove_file(file).map_err(|e| Trouble::in_file(file, e))?;
+    Ok(true)
 }

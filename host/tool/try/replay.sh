@@ -1,0 +1,56 @@
+# replay: all recordings, one, several, those that differ, and those that cannot be read
+
+pictures=$(($(find "$data" -name '*.dbv' | wc -l) + 120)) # 120 in original.dbvs
+expect 0 replay "$data"
+says "The old rule, down the columns, gives other planes than the recorder's in 36 of 153 pictures."
+says "Pictures: $pictures equal, 0 different, 0 incomplete. Files not read: 0."
+expect 0 replay "$data/original.dbvs"
+says "original.dbvs, picture 3: "
+says "macroblocks, no grids: equal"
+says "Pictures: 120 equal, 0 different"
+expect 0 replay "$good"
+says "random orders, seeds 0 to 99: planes as the recorder's in 100 of 100"
+if [ -e ../target/example.dbv ]; then # examples/record.c has written it
+    expect 0 replay ../target/example.dbv
+fi
+expect 1 replay "$good" "$data/plane.bad"
+says "1 sample differs (Y 0, U 0, V 1)"
+says "random order of seed 0: "
+says "Pictures: 1 equal, 1 different, 0 incomplete. Files not read: 0."
+expect 1 replay "$data/strength.bad"
+says "strengths: 1 macroblock differs, the first is"
+
+head -c 1000 "$good" >"$work/cut.dbv"
+printf 'DBV1\377\377\377\377\010\001\000\000\000\000' >"$work/large.dbv"
+cat "$good" "$work/cut.dbv" >"$work/second-cut.dbv"
+printf 'DBV1\002\000\002\000\010\001\020\000\376\000' >"$work/two-offsets.dbv"
+printf 'DBV1\002\000\002\000\012\001\000\000\000\000' >"$work/ten-bits.dbv"
+mkdir "$work/empty"
+expect 2 replay no-such-file
+says "no-such-file: No such file"
+expect 2 replay README.md
+says "README.md: at byte 0: this is no recording"
+expect 2 replay "$work/large.dbv"
+says "at byte 4: 65535 by 65535 macroblocks is no size"
+expect 2 replay "$data/cut.bad"
+says "the strengths: 128 bytes are wanted, the file ends after 127"
+expect 2 replay "$work/second-cut.dbv"
+says "Pictures: 1 equal, 0 different, 0 incomplete. Files not read: 1."
+expect 2 replay "$work/two-offsets.dbv"
+says "a chroma offset for U and another for V"
+expect 2 replay "$work/ten-bits.dbv"
+says "10-bit samples"
+expect 2 replay "$work"
+says "Files not read: 5."
+expect 2 replay "$work/empty"
+says "no file of this folder is called *.dbv or *.dbvs"
+expect 2 replay "$work/empty" "$data/plane.bad" no-such-file "$good"
+says "Pictures: 1 equal, 1 different, 0 incomplete. Files not read: 2."
+if [ "$(id -u)" != 0 ]; then # nothing is unreadable for root
+    cp "$good" "$work/secret.dbv"
+    chmod 000 "$work/secret.dbv"
+    expect 2 replay "$work/secret.dbv"
+    says "Permission denied"
+    rm -f "$work/secret.dbv"
+fi
+echo "tool: all recordings replayed and equal"

@@ -10,8 +10,8 @@ use std::ops::Range;
 /// stays good when a later version adds a member; where all are set, clippy's `needless_update` is to be
 /// allowed.
 ///
-/// Between the visits of a picture its size and offsets stay, and the calls alone write marks. What belongs to
-/// a macroblock, its samples, QP, flag and strengths, may be written until its own visit and not after it.
+/// Between the visits of a picture its size and offsets stay, and the calls alone write marks. What belongs
+/// to a macroblock, its samples, QP, flag and strengths, may be written until its own visit and not after it.
 /// Before that let QPs, flags and strengths be 0: a visit also looks at QPs to the left and above. To write
 /// them the caller drops the `Picture`, which is only borrows, and makes another over the same buffers.
 ///
@@ -44,8 +44,9 @@ impl Picture<'_> {
         Answer::of(wire::frame(self))
     }
 
-    /// Filters the macroblock rows from `rows.start` on and before `rows.end`. Each row is filtered once, from
-    /// the top; that gives the planes of [`Picture::frame`], and another order may not. No mark is read or set.
+    /// Filters the macroblock rows from `rows.start` on and before `rows.end`. Each row is filtered once,
+    /// from the top; that gives the planes of [`Picture::frame`], and another order may not. No mark is read
+    /// or set.
     pub fn rows(&mut self, rows: Range<usize>) -> Answer {
         Answer::of(wire::rows(self, rows.start, rows.end))
     }
@@ -57,8 +58,8 @@ impl Picture<'_> {
     }
 
     /// Writes the 32 strengths of a macroblock of which nothing is known but whether its transform is 8x8. It
-    /// reads the grids of the macroblock and the nearest blocks of its left and upper neighbours, so these have
-    /// to be there: it cannot tell a block that has not arrived from one that has.
+    /// reads the grids of the macroblock and the nearest blocks of its left and upper neighbours, so these
+    /// have to be there: it cannot tell a block that has not arrived from one that has.
     pub fn derive(&mut self, grids: Grids, at: Place, t8: bool) -> Answer {
         Answer::of(wire::strengths(self, grids, at, t8.into()))
     }

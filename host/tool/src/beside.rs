@@ -1,9 +1,10 @@
 //! The planes of a replay beside the recorder's. A macroblock counts once it is final.
 
 use crate::differences::Differences;
-use crate::orders::{raster, Replay};
+use crate::orders::raster;
 use crate::raw::samples;
 use crate::recording::Recording;
+use crate::station::Station;
 
 /// The worse comes later.
 #[derive(Clone, Copy, PartialEq, Eq, PartialOrd, Ord, Debug)]
@@ -47,7 +48,7 @@ pub struct Beside {
 }
 
 impl Beside {
-    pub fn of(r: &Recording, end: &Replay) -> Beside {
+    pub fn of(r: &Recording, end: &Station) -> Beside {
         let all = samples(end.picture.view(), r.after.view());
         let differences = Differences::of(all.filter(|s| end.is_final(s.column, s.row)));
         let finals = raster(r.before.size).iter().filter(|p| end.is_final(p.x, p.y)).count();
@@ -78,8 +79,8 @@ impl Beside {
 #[cfg(test)]
 mod tests {
     use super::*;
-    use crate::orders::replay;
     use crate::recording::tests::{good, parse};
+    use crate::station::replay;
     use deblock::Place;
 
     fn verdict(order: &[Place], last: u8) -> (Verdict, Vec<String>) {

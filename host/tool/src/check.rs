@@ -2,10 +2,11 @@
 
 use crate::beside::{Beside, Counts, Verdict};
 use crate::orderfile::OrderFile;
-use crate::orders::{self, replay, Order};
+use crate::orders::{self, Order};
 use crate::progress::Progress;
 use crate::recording::{BlockGrids, Recording};
 use crate::say::{counted, differ};
+use crate::station::{old_rule, replay};
 use crate::trouble::Trouble;
 use deblock::{Answer, Place};
 
@@ -25,9 +26,10 @@ pub struct Report {
     pub lines: Vec<String>,
 }
 
-/// Whether the old release's rule gives other planes than the recorder's, so that a replay can show its fault.
+/// Whether the old release's rule gives other planes than the recorder's, so that a replay can show its
+/// fault.
 pub fn shows_the_fault(r: &Recording) -> bool {
-    orders::old_rule(r.before.clone(), &r.settings) != r.after
+    old_rule(r.before.clone(), &r.settings) != r.after
 }
 
 impl Report {

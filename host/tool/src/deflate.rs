@@ -1,5 +1,5 @@
-//! zlib streams (RFC 1950, 1951) with nothing but std: fixed codes, and repetitions at two distances only, which
-//! is what enlarged pictures have: the pixel before, and the row above.
+//! zlib streams (RFC 1950, 1951) with nothing but std: fixed codes, and repetitions at two distances only,
+//! which is what enlarged pictures have: the pixel before, and the row above.
 
 /// A zlib stream of `data`, looking for what stands `near[0]` or `near[1]` bytes earlier.
 pub fn zlib(data: &[u8], near: [usize; 2]) -> Vec<u8> {
@@ -90,8 +90,8 @@ impl Bits {
     }
 }
 
-/// A number as a code, and the value and count of the bits that follow it: `each` codes for each count of bits,
-/// the first of them twice as many.
+/// A number as a code, and the value and count of the bits that follow it: `each` codes for each count of
+/// bits, the first of them twice as many.
 fn split(n: usize, each: usize) -> (u16, u64, u32) {
     if n < 2 * each {
         return (n as u16, 0, 0);

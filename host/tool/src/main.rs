@@ -22,6 +22,7 @@ mod recording;
 mod recordings;
 mod replay;
 mod source;
+mod station;
 mod trouble;
 #[cfg(test)]
 mod version;

@@ -3,9 +3,10 @@
 
 use super::recorder::{self, Sent};
 use super::wall::Wall;
-use crate::orders::{self, old_rule, replay};
+use crate::orders;
 use crate::picture::{differences, Picture, Settings};
 use crate::progress::Progress;
+use crate::station::{old_rule, replay};
 use deblock::{Answer, Offsets};
 
 /// An intra picture and 24 that are predicted, each from the one before: a second of film.

@@ -47,8 +47,8 @@ pub fn grey() -> Picture {
     Picture { size: SIZE, luma: vec![128; 256 * n], u: vec![128; 64 * n], v: vec![128; 64 * n] }
 }
 
-/// The prediction from the last filtered picture, the wall moved on. A chroma sample lies half way between two
-/// (ITU-T H.264, clause 8.4.2.2.2); beyond the border the last one is repeated.
+/// The prediction from the last filtered picture, the wall moved on. A chroma sample lies half way between
+/// two (ITU-T H.264, clause 8.4.2.2.2); beyond the border the last one is repeated.
 pub fn moved(last: &Picture) -> Picture {
     let at =
         |plane: &[u8], width: usize, i: usize, by: usize| plane[i / width * width + (i % width + by).min(width - 1)];

@@ -66,8 +66,8 @@ mod tests {
         assert!(block.iter().zip(again).all(|(a, b)| (a - b).abs() < 1e-9));
     }
 
-    /// A level of 10 is a first coefficient of 40. At QP 28 the step is 16 and 40 lies just half way to 48: it
-    /// falls to 32, a level of 8. One of 3 is 12, which reaches 16, a level of 4; one of 2 is lost.
+    /// A level of 10 is a first coefficient of 40. At QP 28 the step is 16 and 40 lies just half way to 48:
+    /// it falls to 32, a level of 8. One of 3 is 12, which reaches 16, a level of 4; one of 2 is lost.
     #[test]
     fn levels_in_steps() {
         let level = |n: i16| (keep(&[n; 16], 4, 28).0[5], keep(&[n; 16], 4, 28).1[0]);

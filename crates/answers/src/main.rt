@@ -3,7 +3,8 @@
 // host/oracle/examples/answers.rs makes the same calls of it.
 use edges::Offsets;
 use libc::STDOUT_FILENO;
-use pictures::rows::filter_frame;
+use pictures::rows::filter_whole;
+use sizes::Part;
 use sizes::Size;
 use strengths::calls::derive_mb;
 use strengths::calls::derive_mb_bs;
@@ -50,6 +51,7 @@ fn plain(inter: u8, x: usize, t8: bool, s: &mut [u8]) {
     mv0[44] = 4;
     let n = derive_mb(
         Size { w: 2, h: 1 },
+        false,
         Plain { x, y: 0, t8 },
         &[inter; 32],
         &nnz,
@@ -71,6 +73,7 @@ fn flagged(x: usize, flat: bool, uniform: bool, s: &mut [u8]) {
     ref1[4] = 5;
     let n = derive_mb_bs(
         Size { w: 2, h: 1 },
+        false,
         Flagged {
             x,
             y: 0,
@@ -94,6 +97,7 @@ fn flagged(x: usize, flat: bool, uniform: bool, s: &mut [u8]) {
 fn by_kind(x: usize, kind: MbKind, s: &mut [u8]) {
     let n = derive_mb_kind(
         Size { w: 2, h: 1 },
+        false,
         Request { x, y: 0, kind },
         &[
             0,
@@ -153,8 +157,9 @@ fn frame(q: u8, t8s: &[u8], o: Offsets, s: &[u8]) {
     let mut v = [90; 128];
     rise(&mut luma);
     rise(&mut u);
-    let n = filter_frame(
+    let n = filter_whole(
         Size { w: 2, h: 1 },
+        Part::Frame,
         o,
         &mut luma,
         &mut u,

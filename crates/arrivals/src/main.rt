@@ -5,6 +5,7 @@
 ghost use Prim.Native.Nat.{_<_};
 use edges::Offsets;
 use libc::STDOUT_FILENO;
+use sizes::Part;
 use sizes::Size;
 use visits::visits::replay;
 
@@ -183,6 +184,7 @@ fn run(name: &[u8], picture: u8, xs: &[usize; 8], ys: &[usize; 8]) {
     let o = offsets_of(picture);
     let n = replay(
         Size { w: 2, h: 2 },
+        Part::Frame,
         o,
         xs,
         ys,
@@ -247,6 +249,7 @@ fn one_wide() {
     let mut answers = [0u32; 2];
     let n = replay(
         Size { w: 1, h: 2 },
+        Part::Frame,
         offsets_of(1),
         &[0, 0],
         &[0, 1],

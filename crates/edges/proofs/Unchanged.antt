@@ -24,6 +24,8 @@ use Rattle.lines.specs.Depth.{Depth}
 use Rattle.edges.specs.Edge.{LumaRule, ChromaRule, lumaRule, chromaRule, lumaEdge, chromaEdge}
 use Rattle.edges.specs.Macroblock.{Settings, after, outerOr, lumaWay, chromaWay, lumaBoth, chromaBoth, lumaMb, chromaMb}
 use Rattle.edges.specs.Inner.{allZero}
+use Rattle.edges.specs.Laid.{farOf, windowOf, lumaIn, chromaIn, laidMb}
+use Rattle.edges.specs.declared.settings.Layout.{Layout}
 use Rattle.edges.specs.Picture.{Planes, Held, settingsAt, originOf, lumaOf, chromaOf, macroblockAt}
 
 -- ---- an edge
@@ -106,6 +108,15 @@ module _ (g : Held) (x y : ℕ) (z : Zeros 32 (after (32 * (y * g .w + x)) (g .s
   pub macroblock-still : (p : Planes) → macroblockAt g x y p ≡ p
   unfolding macroblockAt
   macroblock-still p = λ i. record { luma = luma-still (p .luma) i; u = chroma-still (g .u) (p .u) i; v = chroma-still (g .v) (p .v) i }
+
+  -- .. wherever the picture lies
+  pub laid-still : (l : Layout) (p : Planes) → laidMb g l x y p ≡ p
+  unfolding laidMb lumaIn chromaIn
+  laid-still l p = λ i. record {
+    luma = lumaMb-zero (g .depth) (settingsAt g x y) z (windowOf l 16 (g .w) x y .origin) (farOf l (16 * g .w)) (p .luma) i;
+    u = chromaMb-zero (g .depth) (settingsAt g x y) z (windowOf l 8 (g .w) x y .origin) (farOf l (8 * g .w)) (p .u) (g .u) i;
+    v = chromaMb-zero (g .depth) (settingsAt g x y) z (windowOf l 8 (g .w) x y .origin) (farOf l (8 * g .w)) (p .v) (g .v) i;
+  }
 
 -- ---- the test of it
 zeros-up-to : (strengths : ℕ → ℕ) (n : ℕ) → upTo n (λ (k : ℕ) (b : Bool). b && eqb (strengths k) 0) true ≡ true → Zeros n strengths

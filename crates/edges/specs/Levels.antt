@@ -1,6 +1,6 @@
 -- Apart: no promise to a caller of the public calls rests on it. The rules by the thresholds that an edge is
 -- handed, and the thresholds of a macroblock's edges: what the code computes before it touches a line.
-use Prim.Native.Nat.{ℕ, _*_}
+use Prim.Native.Nat.{ℕ}
 use lib.IntN.{ℤ}
 use Rattle.lines.specs.Thresholds.{average, chromaQp}
 use Rattle.lines.specs.Depth.{Depth}
@@ -13,10 +13,12 @@ use Rattle.batches.specs.declared.lanes.Thresholds.{Thresholds}
 use Rattle.batches.specs.Lines.{lumaWith, chromaWith}
 use Rattle.laws.specs.Places.{Plane}
 use Rattle.edges.specs.Macroblock.{Settings, lumaOn, outerOr, lumaBoth, chromaBoth}
-use Rattle.edges.specs.Picture.{Held, settingsAt, originOf}
+use Rattle.edges.specs.Laid.{windowOf}
+use Rattle.edges.specs.Picture.{Held, settingsAt}
 use Rattle.edges.specs.declared.levels.PlaneLevels.{PlaneLevels}
 use Rattle.edges.specs.declared.levels.WayLevels.{WayLevels}
 use Rattle.edges.specs.declared.levels.Levels.{Levels}
+use Rattle.edges.specs.declared.settings.Layout.{Layout}
 use Rattle.edges.specs.declared.settings.Plan.{Plan}
 use Rattle.edges.specs.declared.settings.Switches.{Switches}
 use Rattle.edges.specs.declared.settings.Window.{Window}
@@ -64,11 +66,11 @@ abbrev pub topWay : PlaneLevels → WayLevels
 topWay m = record { border = m .top; inside = m .inner }
 
 -- all that macroblock (x, y) is filtered with, but for its strengths
-abbrev pub planOf : Held → ℕ → ℕ → Plan
-planOf g x y = record {
+abbrev pub planOf : Held → Layout → ℕ → ℕ → Plan
+planOf g l x y = record {
   on = record { left = s .left; top = s .top; inner = s .inner; t8 = s .t8 };
-  luma = record { origin = originOf 16 (g .w) x y; stride = 16 * g .w };
-  chroma = record { origin = originOf 8 (g .w) x y; stride = 8 * g .w };
+  luma = windowOf l 16 (g .w) x y;
+  chroma = windowOf l 8 (g .w) x y;
   levels = levelsOf (g .depth) (s .qp) (s .qpLeft) (s .qpAbove) (s .a) (s .b) (g .u) (g .v);
 }
   where

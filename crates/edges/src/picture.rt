@@ -1,16 +1,20 @@
-// Macroblocks and rows of a picture of three planes, w macroblocks wide. In raster order each macroblock has
-// a QP, an 8x8 flag (an empty grid: all 0) and 32 strengths.
+// Macroblocks and rows of a picture, w macroblocks wide, which is a part of three planes. In raster order each
+// macroblock has a QP, an 8x8 flag (an empty grid: all 0) and 32 strengths.
 ghost use mathlib.Core.Path.{_≡_};
+ghost use mathlib.Core.Bool.{false};
 ghost use Prim.Native.Nat.{_+_, _*_, _<_, _≤_};
 ghost use lib.ListN.{length};
 ghost use Rattle.lines.specs.Inner.{tables};
-ghost use Rattle.edges.specs.Picture.{planes, held, macroblockAt, rowOf, rowsOf};
+ghost use Rattle.sizes.specs.Sizes.{badParity, frameOfPart};
+ghost use Rattle.edges.specs.Picture.{planes, held};
+ghost use Rattle.edges.specs.Laid.{layoutOf, laidMb, laidRow, laidRows};
 ghost use Rattle.edges.specs.Inner.{Room};
 use crate::Offsets;
 use crate::macroblock::all_zero;
 use crate::macroblock::chroma_planes;
 use crate::macroblock::luma_plane;
 use crate::settings::plan_at;
+use sizes::Part;
 use sizes::Size;
 
 // Macroblock (x, row). Where all its strengths are 0 nothing is to do.
@@ -19,6 +23,7 @@ pub fn macroblock(
     u: &mut [u8],
     v: &mut [u8],
     t: &[u8; 282],
+    part: Part,
     w: usize,
     x: usize,
     row: usize,
@@ -28,14 +33,14 @@ pub fn macroblock(
     o: Offsets,
 )
     requires { ⌜ now t ≡ tables ⌝ }
-    requires { ⌜ (x < w) × Room (row * w + w) (length (now luma)) (length (now u)) (length (now v)) (length (now qps)) (length (now t8s)) (length (now strengths)) ⌝ }
-    ensures { λ _. ⌜ planes (now (luma .exit)) (now (u .exit)) (now (v .exit)) ≡ macroblockAt (held w (now (strengths .entry)) (now (qps .entry)) (now (t8s .entry)) o) x row (planes (now (luma .entry)) (now (u .entry)) (now (v .entry))) ⌝ }
+    requires { ⌜ (badParity part ≡ false) × (x < w) × Room (frameOfPart part (row * w + w)) (row * w + w) (length (now luma)) (length (now u)) (length (now v)) (length (now qps)) (length (now t8s)) (length (now strengths)) ⌝ }
+    ensures { λ _. ⌜ planes (now (luma .exit)) (now (u .exit)) (now (v .exit)) ≡ laidMb (held w (now (strengths .entry)) (now (qps .entry)) (now (t8s .entry)) o) (layoutOf part) x row (planes (now (luma .entry)) (now (u .entry)) (now (v .entry))) ⌝ }
 {
     let base = 32 * (row * w + x);
     if all_zero(strengths, base) {
         return;
     }
-    let plan = plan_at(t, w, x, row, qps, t8s, o);
+    let plan = plan_at(t, part, w, x, row, qps, t8s, o);
     let on = plan.on;
     let at = plan.luma;
     let chroma_at = plan.chroma;
@@ -53,6 +58,7 @@ fn one_row(
     u: &mut [u8],
     v: &mut [u8],
     t: &[u8; 282],
+    part: Part,
     w: usize,
     row: usize,
     qps: &[u8],
@@ -61,11 +67,11 @@ fn one_row(
     o: Offsets,
 )
     requires { ⌜ now t ≡ tables ⌝ }
-    requires { ⌜ Room (row * w + w) (length (now luma)) (length (now u)) (length (now v)) (length (now qps)) (length (now t8s)) (length (now strengths)) ⌝ }
-    ensures { λ _. ⌜ planes (now (luma .exit)) (now (u .exit)) (now (v .exit)) ≡ rowOf (held w (now (strengths .entry)) (now (qps .entry)) (now (t8s .entry)) o) row (planes (now (luma .entry)) (now (u .entry)) (now (v .entry))) ⌝ }
+    requires { ⌜ (badParity part ≡ false) × Room (frameOfPart part (row * w + w)) (row * w + w) (length (now luma)) (length (now u)) (length (now v)) (length (now qps)) (length (now t8s)) (length (now strengths)) ⌝ }
+    ensures { λ _. ⌜ planes (now (luma .exit)) (now (u .exit)) (now (v .exit)) ≡ laidRow (held w (now (strengths .entry)) (now (qps .entry)) (now (t8s .entry)) o) (layoutOf part) row (planes (now (luma .entry)) (now (u .entry)) (now (v .entry))) ⌝ }
 {
     for x in 0..w {
-        macroblock(luma, u, v, t, w, x, row, qps, t8s, strengths, o);
+        macroblock(luma, u, v, t, part, w, x, row, qps, t8s, strengths, o);
     }
 }
 
@@ -75,6 +81,7 @@ pub fn rows(
     u: &mut [u8],
     v: &mut [u8],
     t: &[u8; 282],
+    part: Part,
     size: Size,
     a: usize,
     b: usize,
@@ -84,11 +91,11 @@ pub fn rows(
     o: Offsets,
 )
     requires { ⌜ now t ≡ tables ⌝ }
-    requires { ⌜ (a ≤ b) × (b ≤ size .h) × Room (size .w * size .h) (length (now luma)) (length (now u)) (length (now v)) (length (now qps)) (length (now t8s)) (length (now strengths)) ⌝ }
-    ensures { λ _. ⌜ planes (now (luma .exit)) (now (u .exit)) (now (v .exit)) ≡ rowsOf (held (size .w) (now (strengths .entry)) (now (qps .entry)) (now (t8s .entry)) o) a b (planes (now (luma .entry)) (now (u .entry)) (now (v .entry))) ⌝ }
+    requires { ⌜ (badParity part ≡ false) × (a ≤ b) × (b ≤ size .h) × Room (frameOfPart part (size .w * size .h)) (size .w * size .h) (length (now luma)) (length (now u)) (length (now v)) (length (now qps)) (length (now t8s)) (length (now strengths)) ⌝ }
+    ensures { λ _. ⌜ planes (now (luma .exit)) (now (u .exit)) (now (v .exit)) ≡ laidRows (held (size .w) (now (strengths .entry)) (now (qps .entry)) (now (t8s .entry)) o) (layoutOf part) a b (planes (now (luma .entry)) (now (u .entry)) (now (v .entry))) ⌝ }
 {
     let w = size.w;
     for row in a..b {
-        one_row(luma, u, v, t, w, row, qps, t8s, strengths, o);
+        one_row(luma, u, v, t, part, w, row, qps, t8s, strengths, o);
     }
 }

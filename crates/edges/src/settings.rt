@@ -8,11 +8,15 @@ ghost use lib.IntN.{pos};
 ghost use lib.ListN.{length};
 ghost use Rattle.lines.specs.Depth.{eight};
 ghost use Rattle.lines.specs.Inner.{tables};
+ghost use Rattle.sizes.specs.Sizes.{badParity, frameOfPart};
+ghost use Rattle.edges.specs.Inner.{SmallWindow};
+ghost use Rattle.edges.specs.Laid.{layoutOf, windowOf};
 ghost use Rattle.edges.specs.Levels.{levelsOf, planOf};
 ghost use Rattle.edges.specs.Picture.{entries, flagAt, beforeOf, heldBy};
 use crate::Offsets;
 use crate::levels::Levels;
 use crate::levels::of_planes;
+use sizes::Part;
 
 // Which edges are filtered; with the 8x8 transform no luma edges 1 and 3.
 pub struct Switches {
@@ -26,6 +30,12 @@ pub struct Switches {
 pub struct Window {
     pub origin: usize,
     pub stride: usize,
+}
+
+// Where a picture lies in the planes: its line r is line times * r + skip of theirs.
+pub struct Layout {
+    pub times: usize,
+    pub skip: usize,
 }
 
 // All that a macroblock is filtered with, but for its strengths.
@@ -78,9 +88,34 @@ fn levels_at(t: &[u8; 282], w: usize, x: usize, row: usize, qps: &[u8], o: Offse
     of_planes(t, qp, qp_left, qp_above, o)
 }
 
+// A frame has all lines of the planes, a field every second.
+fn layout_of(part: Part) -> Layout
+    ensures { λ r. ⌜ r ≡ layoutOf part ⌝ }
+{
+    match part {
+        Part::Frame => Layout { times: 1, skip: 0 },
+        Part::Field(parity) => Layout {
+            times: 2,
+            skip: parity as usize,
+        },
+    }
+}
+
+// Where macroblock (x, row) lies in a plane of `side` by `side` samples a macroblock.
+fn window_at(l: Layout, side: usize, w: usize, x: usize, row: usize) -> Window
+    requires { ⌜ SmallWindow l side w x row ⌝ }
+    ensures { λ r. ⌜ r ≡ windowOf l side w x row ⌝ }
+{
+    let line = side * w;
+    let stride = l.times * line;
+    let origin = l.skip * line + side * row * stride + side * x;
+    Window { origin, stride }
+}
+
 // All of it, where every edge with a neighbour is filtered. The macroblock's luma places fit a usize.
 pub fn plan_at(
     t: &[u8; 282],
+    part: Part,
     w: usize,
     x: usize,
     row: usize,
@@ -89,26 +124,20 @@ pub fn plan_at(
     o: Offsets,
 ) -> Plan
     requires { ⌜ now t ≡ tables ⌝ }
-    requires { ⌜ (x < w) × (256 * (row * w + w) < 18446744073709551616) × (row * w + w ≤ length (now qps)) × (eqb (length (now t8s)) 0 ≡ false → row * w + w ≤ length (now t8s)) ⌝ }
-    ensures { λ r. ⌜ ((strengths : ℕ → ℕ) → r ≡ planOf (heldBy w strengths (now (qps .entry)) (now (t8s .entry)) o) x row) ⌝ }
+    requires { ⌜ (badParity part ≡ false) × (256 * frameOfPart part (row * w + w) < 18446744073709551616) ⌝ }
+    requires { ⌜ (x < w) × (row * w + w ≤ length (now qps)) × (eqb (length (now t8s)) 0 ≡ false → row * w + w ≤ length (now t8s)) ⌝ }
+    ensures { λ r. ⌜ ((strengths : ℕ → ℕ) → r ≡ planOf (heldBy w strengths (now (qps .entry)) (now (t8s .entry)) o) (layoutOf part) x row) ⌝ }
 {
-    let p = row * w;
-    let origin = 256 * p + 16 * x;
-    let stride = 16 * w;
-    let chroma_origin = 64 * p + 8 * x;
-    let chroma_stride = 8 * w;
-    let t8 = flag(t8s, p + x);
+    let l = layout_of(part);
+    let luma = window_at(l, 16, w, x, row);
+    let chroma = window_at(l, 8, w, x, row);
+    let t8 = flag(t8s, row * w + x);
     let levels = levels_at(t, w, x, row, qps, o);
     let on = Switches {
         left: 0 < x,
         top: 0 < row,
         inner: true,
         t8,
-    };
-    let luma = Window { origin, stride };
-    let chroma = Window {
-        origin: chroma_origin,
-        stride: chroma_stride,
     };
     Plan {
         on,

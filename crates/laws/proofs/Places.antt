@@ -44,7 +44,7 @@ puts-within top [] vs s h f = f
 puts-within top (p ∷ ps) [] s h f = f
 puts-within top (p ∷ ps) (v ∷ vs) s h f = puts-within top ps vs (set s p v) (h .1) (set-within top v (h .0) s p f)
 
-gets-within : (top : ℕ) (ps : List ℕ) (s : Plane) → Within top s → All (λ v. v ≤ top) (gets ps s)
+pub gets-within : (top : ℕ) (ps : List ℕ) (s : Plane) → Within top s → All (λ v. v ≤ top) (gets ps s)
 gets-within top [] s f = tt
 gets-within top (p ∷ ps) s f = (f p, gets-within top ps s f)
 
@@ -52,6 +52,10 @@ pub all-at : (top : ℕ) (vs : List ℕ) → All (λ v. v ≤ top) vs → Within
 all-at top [] a i = omega arith
 all-at top (v ∷ vs) a zero = a .0
 all-at top (v ∷ vs) a (suc i) = all-at top vs (a .1) i
+
+pub all-of : (top : ℕ) (vs : List ℕ) → Within top vs → All (λ v. v ≤ top) vs
+all-of top [] f = tt
+all-of top (v ∷ vs) f = (f zero, all-of top vs (λ i. f (suc i)))
 
 -- a function that makes samples of samples keeps the plane's
 pub through-within : (top : ℕ) (ps qs : List ℕ) (f : List ℕ → List ℕ) (s : Plane)

@@ -1,8 +1,8 @@
 -- The far test: what the wrapped numbers say of the difference of the components, once over the most that is
 -- near. Assumes nothing.
 use mathlib.Core.Path.{_≡_, refl, sym, ap, _∙_}
-use mathlib.Core.Bool.{false, or-false}
-use Prim.Native.Nat.{ℕ, zero, suc, _^_, _<_, zero-le}
+use mathlib.Core.Bool.{false, not, or-false}
+use Prim.Native.Nat.{ℕ, zero, suc, _^_, _≤_, _<_, zero-le}
 use native.Mathlib.Omega.{arith}
 use borrow.Author.Tests.{lt-ltb, le-ltb}
 use lib.Dec.{T, ltb, ltb→lt, nltb→le, leb·suc-suc}
@@ -30,6 +30,12 @@ outside-comm m a b =
   where
     turned : negℤ (a -ℤ b) ≡ b -ℤ a
     turned = negℤ-+ℤ a (negℤ b) ∙ ap (λ (z : ℤ). negℤ a +ℤ z) (negℤ-negℤ b) ∙ +ℤ-comm (negℤ a) b
+
+-- within m of 0 is within every more
+pub within-more : {m n : ℕ} → m ≤ n → (d : ℤ) → T (not (outside m d)) → T (not (outside n d))
+within-more {m} {n} h d t =
+    let k = nltb→le m (natAbs d) (rw (outside-abs m d) at t) in
+    rw (outside-abs n d, le-ltb n (natAbs d) (omega arith)) tt
 
 -- ---- the components raised by 32,768: none is negative, and their difference is the same
 pub raised-nonneg : (z : ℤ) → mag z < 2 ^ 15 → T (nonNeg (z +ℤ pos 32768))

@@ -2,6 +2,7 @@ pub mod Cases
 pub mod Differ
 pub mod Far
 pub mod Laws
+pub mod Limits
 pub mod GridParts
 pub mod Refused
 pub mod UsedList

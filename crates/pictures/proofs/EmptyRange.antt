@@ -1,4 +1,4 @@
--- An empty range that passes checks 1 to 6 is served, whatever the values are, and leaves the planes. Assumes
+-- An empty range that passes checks 1 to 6, 19 among them, is served, whatever the values are, and leaves the planes. Assumes
 -- nothing.
 use mathlib.Core.Path.{_≡_, refl, sym, ap, _∙_}
 use mathlib.Core.Bool.{Bool, true, false, cond, not, _&&_}
@@ -10,17 +10,20 @@ use lib.Dec.{eqb, ltb}
 use lib.ListN.{length}
 use Rattle.laws.specs.Refusal.{refusal}
 use Rattle.laws.proofs.Refusal.{first-passed, skip}
+use Rattle.edges.specs.Fields.{onPart}
 use Rattle.edges.specs.Picture.{Planes, rowsOf}
+use Rattle.edges.proofs.PartLaws.{on-part-still}
+use Rattle.sizes.specs.declared.Part.{Part}
 use Rattle.edges.proofs.Pictures.{rows-none}
 use Rattle.pictures.specs.Checks.{Lent, heldOf, badFlag, badQp, badStrength, someBad, someBadFlag, pictureChecks, gridChecks, entryChecks}
 use Rattle.pictures.specs.Rows.{badRange, qpsFrom, rowReads, rowAnswer, RowOutcome}
 use Rattle.pictures.proofs.SomeBad.{some-bad-none}
 
-module _ (d : Lent) (p : Planes) (a : ℕ) where
-  -- checks 1 to 6
+module _ (part : Part) (d : Lent) (p : Planes) (a : ℕ) where
+  -- checks 1 to 6, and 19
   abbrev pub lengthsOf : List (ℕ × Bool)
   lengthsOf =
-      pictureChecks (d .size) (badRange (d .size) a a) (length (p .luma)) (length (p .u)) (length (p .v))
+      pictureChecks part (d .size) (badRange (d .size) a a) (length (p .luma)) (length (p .u)) (length (p .v))
       ++ gridChecks (d .size .w * d .size .h) (length (d .strengths)) (length (d .qps)) (length (d .t8s)) false (d .offsets)
 
   no-flags : (n : ℕ) → someBadFlag n n (d .t8s) ≡ false
@@ -46,8 +49,8 @@ module _ (d : Lent) (p : Planes) (a : ℕ) where
       (skip 8 (ap (λ (n : ℕ). someBad badQp n (a * d .size .w) (d .qps)) (no-before (d .size .w)) ∙ sym (some-bad-none badQp (a * d .size .w) (d .qps)))
       (skip 9 (sym (some-bad-none badStrength (32 * (a * d .size .w)) (d .strengths))) refl))
 
-  pub empty-range : (n : ℕ) (p′ : Planes) → refusal lengthsOf ≡ 0 → RowOutcome d a a p n p′ → (n ≡ 0) × (p′ ≡ p)
+  pub empty-range : (n : ℕ) (p′ : Planes) → refusal lengthsOf ≡ 0 → RowOutcome part d a a p n p′ → (n ≡ 0) × (p′ ≡ p)
   unfolding rowAnswer
   empty-range n p′ e r =
       let k : n ≡ 0 = r .says ∙ sym (first-passed lengthsOf entriesOf tt e no-entries) in
-      (k, r .leaves ∙ ap (λ (m : ℕ). cond (eqb m 0) (rowsOf (heldOf d) a a p) p) k ∙ rows-none (heldOf d) a p)
+      (k, r .leaves ∙ ap (λ (m : ℕ). cond (eqb m 0) (onPart part (d .size) (rowsOf (heldOf d) a a) p) p) k ∙ on-part-still (d .size) (rowsOf (heldOf d) a a) p part (rows-none (heldOf d) a))

@@ -10,6 +10,7 @@ use lib.Signed.{ltZ}
 use Rattle.lines.specs.Depth.{eight}
 use Rattle.laws.specs.Some.{some}
 use Rattle.edges.specs.Picture.{Planes, planes}
+use Rattle.sizes.specs.declared.Part.the-variants.{Frame, Field}
 use Rattle.pictures.specs.Checks.{Lent, lent, badQp, someBad}
 use Rattle.pictures.specs.Rows.{rowAnswer}
 
@@ -20,19 +21,34 @@ greyLent bs qp = lent (record { w = 1; h = 1 }) (record { a = pos 0; b = pos 0; 
 abbrev pub grey : Planes
 grey = planes (replicate 256 128) (replicate 64 128) (replicate 64 128)
 
-pub grey-served : rowAnswer (greyLent 0 30) 0 1 grey ≡ 0
+pub grey-served : rowAnswer Frame (greyLent 0 30) 0 1 grey ≡ 0
 unfolding rowAnswer someBad some
 grey-served = refl
 
 -- rows 0 to 2 of one row; no luma; QP 52; strength 5, with QP 52 beside it or without: the first check that
 -- applies
-grey-refused : (rowAnswer (greyLent 0 30) 0 2 grey ≡ 2)
-    × (rowAnswer (greyLent 0 30) 0 1 (planes [] (grey .u) (grey .v)) ≡ 3)
-    × (rowAnswer (greyLent 0 52) 0 1 grey ≡ 8)
-    × (rowAnswer (greyLent 5 52) 0 1 grey ≡ 8)
-    × (rowAnswer (greyLent 5 30) 0 1 grey ≡ 9)
+grey-refused : (rowAnswer Frame (greyLent 0 30) 0 2 grey ≡ 2)
+    × (rowAnswer Frame (greyLent 0 30) 0 1 (planes [] (grey .u) (grey .v)) ≡ 3)
+    × (rowAnswer Frame (greyLent 0 52) 0 1 grey ≡ 8)
+    × (rowAnswer Frame (greyLent 5 52) 0 1 grey ≡ 8)
+    × (rowAnswer Frame (greyLent 5 30) 0 1 grey ≡ 9)
 unfolding rowAnswer someBad some
 grey-refused = (refl, refl, refl, refl, refl)
+
+-- ---- a field of one macroblock: the planes are those of a frame of two. A parity of 2 is refused after the range
+-- and before the planes
+abbrev pub greyFrame : Planes
+greyFrame = planes (replicate 512 128) (replicate 128 128) (replicate 128 128)
+
+grey-field : (rowAnswer (Field 0) (greyLent 0 30) 0 1 greyFrame ≡ 0)
+    × (rowAnswer (Field 1) (greyLent 0 30) 0 1 greyFrame ≡ 0)
+    × (rowAnswer (Field 1) (greyLent 0 30) 0 1 grey ≡ 3)
+    × (rowAnswer Frame (greyLent 0 30) 0 1 greyFrame ≡ 3)
+    × (rowAnswer (Field 2) (greyLent 0 30) 0 1 grey ≡ 19)
+    × (rowAnswer (Field 2) (greyLent 0 30) 0 2 grey ≡ 2)
+    × (rowAnswer (Field 2) (greyLent 0 30) 1 1 greyFrame ≡ 19)
+unfolding rowAnswer someBad some
+grey-field = (refl, refl, refl, refl, refl, refl, refl)
 
 -- ---- a bad QP is one outside the range that the depth sets, -QpBdOffset to 51
 pub bad-qp-range : (qp : ℕ) → (ltZ (pos qp) (negℤ (pos (eight .low))) || ltZ (pos 51) (pos qp)) ≡ badQp qp

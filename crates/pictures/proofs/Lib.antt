@@ -1,3 +1,4 @@
+pub mod Before
 pub mod EmptyRange
 pub mod Examples
 pub mod Fitting

@@ -11,14 +11,18 @@ use lib.Dec.{eqb, ltb}
 use lib.ListN.{length}
 use Rattle.laws.specs.Refusal.{refusal}
 use Rattle.laws.proofs.Refusal.{testOf, passes, none-applies}
+use Rattle.edges.specs.Fields.{onPart}
 use Rattle.edges.specs.Picture.{Planes, rowsOf}
+use Rattle.edges.proofs.OnPart.{rows-lengths}
+use Rattle.edges.proofs.PartLaws.{on-part-after}
+use Rattle.sizes.specs.declared.Part.{Part}
 use Rattle.edges.proofs.Pictures.{rows-join}
 use Rattle.pictures.specs.Checks.{Lent, heldOf, badFlag, badQp, badStrength, someBad, someBadFlag}
 use Rattle.pictures.specs.Rows.{badRange, qpsFrom, rowChecks, rowAnswer, RowOutcome}
-use Rattle.pictures.proofs.RowCalls.{answered-rows-fit, done-rows}
+use Rattle.pictures.proofs.RowCalls.{answered-rows-fit, answered-lengths, done-rows}
 use Rattle.pictures.proofs.SomeBad.{some-bad-join}
 
-module _ (d : Lent) (a b c : ℕ) (h : a ≤ b) (k : b ≤ c) where
+module _ (part : Part) (d : Lent) (a b c : ℕ) (h : a ≤ b) (k : b ≤ c) where
   abbrev w : ℕ
   w = d .size .w
 
@@ -48,28 +52,33 @@ module _ (d : Lent) (a b c : ℕ) (h : a ≤ b) (k : b ≤ c) where
           before false = le-refl _
 
   -- all that the two calls checked: of the planes just their lengths
-  checks-joined : c ≤ d .size .h → (ly lu lv my mu mv : ℕ) → refusal (rowChecks d a b ly lu lv) ≡ 0 → refusal (rowChecks d b c my mu mv) ≡ 0
-      → refusal (rowChecks d a c ly lu lv) ≡ 0
+  checks-joined : c ≤ d .size .h → (ly lu lv my mu mv : ℕ) → refusal (rowChecks part d a b ly lu lv) ≡ 0 → refusal (rowChecks part d b c my mu mv) ≡ 0
+      → refusal (rowChecks part d a c ly lu lv) ≡ 0
   checks-joined m ly lu lv my mu mv e f =
       let range : badRange (d .size) a c ≡ false = rw (le-ltb c a (le-trans h k), le-ltb (d .size .h) c m) in
       let strengths = some-bad-join badStrength (32 * (a * w)) (32 * (b * w)) (32 * (b * w)) (32 * (c * w)) (d .strengths) (le-refl _) (first 9) (second 9) in
-      none-applies (rowChecks d a c ly lu lv)
-      (first 1, (range, (first 3, (first 4, (first 6, (flags (first 7) (second 7), (qps (first 8) (second 8), (strengths, tt))))))))
+      none-applies (rowChecks part d a c ly lu lv)
+      (first 1, (range, (first 19, (first 3, (first 4, (first 6, (flags (first 7) (second 7), (qps (first 8) (second 8), (strengths, tt)))))))))
     where
-      first : (n : ℕ) → testOf n (rowChecks d a b ly lu lv) ≡ false
-      first n = passes n (rowChecks d a b ly lu lv) tt e
+      first : (n : ℕ) → testOf n (rowChecks part d a b ly lu lv) ≡ false
+      first n = passes n (rowChecks part d a b ly lu lv) tt e
 
-      second : (n : ℕ) → testOf n (rowChecks d b c my mu mv) ≡ false
-      second n = passes n (rowChecks d b c my mu mv) tt f
+      second : (n : ℕ) → testOf n (rowChecks part d b c my mu mv) ≡ false
+      second n = passes n (rowChecks part d b c my mu mv) tt f
 
-  answers-joined : (p q : Planes) → c ≤ d .size .h → rowAnswer d a b p ≡ 0 → rowAnswer d b c q ≡ 0 → rowAnswer d a c p ≡ 0
+  answers-joined : (p q : Planes) → c ≤ d .size .h → rowAnswer part d a b p ≡ 0 → rowAnswer part d b c q ≡ 0 → rowAnswer part d a c p ≡ 0
   unfolding rowAnswer
   answers-joined p q m e f =
       checks-joined m (length (p .luma)) (length (p .u)) (length (p .v)) (length (q .luma)) (length (q .u)) (length (q .v)) e f
 
-pub rows-joined : (d : Lent) (p p₁ p₂ : Planes) (a b c : ℕ) → RowOutcome d a b p 0 p₁ → RowOutcome d b c p₁ 0 p₂ → RowOutcome d a c p 0 p₂
-rows-joined d p p₁ p₂ a b c r s =
-    let g = answered-rows-fit d a b p (sym (r .says)) in
-    let k = answered-rows-fit d b c p₁ (sym (s .says)) in
-    done-rows d a c p p₂ (answers-joined d a b c (g .order) (k .order) p p₁ (k .line) (sym (r .says)) (sym (s .says)))
-    (s .leaves ∙ ap (rowsOf (heldOf d) b c) (r .leaves) ∙ rows-join (heldOf d) a b c p (g .order) (k .order))
+pub rows-joined : (part : Part) (d : Lent) (p p₁ p₂ : Planes) (a b c : ℕ) → RowOutcome part d a b p 0 p₁ → RowOutcome part d b c p₁ 0 p₂ → RowOutcome part d a c p 0 p₂
+rows-joined part d p p₁ p₂ a b c r s =
+    let g = answered-rows-fit part d a b p (sym (r .says)) in
+    let k = answered-rows-fit part d b c p₁ (sym (s .says)) in
+    let f = g .fit in
+    done-rows part d a c p p₂ (answers-joined part d a b c (g .order) (k .order) p p₁ (k .line) (sym (r .says)) (sym (s .says)))
+    (s .leaves
+    ∙ ap (onPart part (d .size) (rowsOf (heldOf d) b c)) (r .leaves)
+    ∙ on-part-after (d .size) part (f .sides .both .wide) (f .parity) (rowsOf (heldOf d) b c) (rowsOf (heldOf d) a b)
+    (λ t l. rows-lengths (heldOf d) _ b c t l) (λ t l. rows-lengths (heldOf d) _ a b t l) p (answered-lengths part d a b p (sym (r .says)))
+    ∙ (λ i. onPart part (d .size) (λ t. rows-join (heldOf d) a b c t (g .order) (k .order) i) p))

@@ -1,5 +1,6 @@
--- What every filtering call checks, in the order of its checks: docs/RULES.md, "Answers". A call is lent
--- three planes, strengths, QPs, 8x8 flags; n is the number of macroblocks.
+-- What every filtering call checks, in the order of its checks: docs/RULES.md, "Answers". A call is lent the
+-- three planes of a frame, and strengths, QPs, 8x8 flags of the picture that it filters: the frame, or a field
+-- of it. n is the number of macroblocks.
 use Prim.Native.Nat.{ℕ, _+_, _-_, _*_}
 use mathlib.Core.Bool.{Bool, not, _&&_, _||_}
 use mathlib.Core.List.{List, [], _∷_, _++_}
@@ -10,8 +11,9 @@ use lib.Signed.{ltZ}
 use Rattle.laws.specs.Some.{some}
 use Rattle.edges.specs.Picture.{Held, held}
 use Rattle.edges.specs.declared.Offsets.{Offsets}
+use Rattle.sizes.specs.declared.Part.{Part}
 use Rattle.sizes.specs.declared.Size.{Size}
-use Rattle.sizes.specs.Sizes.{badSize}
+use Rattle.sizes.specs.Sizes.{badSize, badParity, frameOfPart}
 
 -- what is lent beside the planes, and only read
 pub record Lent : Type 0 where
@@ -65,10 +67,12 @@ someBadFlag a b t8s = not (eqb (length t8s) 0) && someBad badFlag a b t8s
 abbrev pub someBadStrength : ℕ → ℕ → List ℕ → Bool
 someBadStrength a b strengths = someBad badStrength (32 * a) (32 * b) strengths
 
--- ---- the checks in their order, in three parts: each is made once those before it have passed. `outside`:
--- what the call asks for lies outside the picture
-abbrev pub pictureChecks : Size → Bool → ℕ → ℕ → ℕ → List (ℕ × Bool)
-pictureChecks size outside luma u v = (1, badSize size) ∷ (2, outside) ∷ (3, badPlanes (size .w * size .h) luma u v) ∷ []
+-- ---- the checks in their order, in three groups: each is made once those before it have passed. `outside`:
+-- what the call asks for lies outside the picture. The planes are those of the frame that the picture is part
+-- of, so 19 comes before 3
+abbrev pub pictureChecks : Part → Size → Bool → ℕ → ℕ → ℕ → List (ℕ × Bool)
+pictureChecks part size outside luma u v =
+    (1, badSize size) ∷ (2, outside) ∷ (19, badParity part) ∷ (3, badPlanes (frameOfPart part (size .w * size .h)) luma u v) ∷ []
 
 -- `other`: another grid that the call is lent has the wrong length
 abbrev pub gridChecks : ℕ → ℕ → ℕ → ℕ → Bool → Offsets → List (ℕ × Bool)
@@ -84,8 +88,8 @@ abbrev pub entryChecks : Reads → List (ℕ × Bool)
 entryChecks r = (7, r .flags) ∷ (8, r .qps) ∷ (9, r .strengths) ∷ []
 
 -- all of them; luma, u, v are the lengths of the planes
-abbrev pub filterChecks : Lent → ℕ → ℕ → ℕ → Bool → Bool → Reads → List (ℕ × Bool)
-filterChecks d luma u v outside other r =
-    pictureChecks (d .size) outside luma u v
+abbrev pub filterChecks : Part → Lent → ℕ → ℕ → ℕ → Bool → Bool → Reads → List (ℕ × Bool)
+filterChecks part d luma u v outside other r =
+    pictureChecks part (d .size) outside luma u v
     ++ gridChecks (d .size .w * d .size .h) (length (d .strengths)) (length (d .qps)) (length (d .t8s)) other (d .offsets)
     ++ entryChecks r

@@ -5,14 +5,28 @@ ghost use Prim.Native.Nat.{_*_, _≤_};
 ghost use lib.Dec.{eqb, ltb};
 ghost use lib.ListN.{length};
 ghost use Rattle.laws.specs.Refusal.{refusal};
+ghost use Rattle.sizes.specs.Sizes.{frameOfPart};
 ghost use Rattle.pictures.specs.Checks.{badPlanes, badLent, badOffsets, someBad, someBadFlag, someBadStrength, pictureChecks, gridChecks};
 use edges::Offsets;
+use sizes::Part;
 use sizes::Size;
+use sizes::bad_parity;
 use sizes::bad_size;
+
+// How many macroblocks the planes have that a picture of n is part of.
+fn frame_of_part(part: Part, n: usize) -> usize
+    requires { ⌜ n ≤ 36864 ⌝ }
+    ensures { λ r. ⌜ r ≡ frameOfPart part n ⌝ }
+{
+    match part {
+        Part::Frame => n,
+        Part::Field(_) => 2 * n,
+    }
+}
 
 // Check 3: lengths of planes, for n macroblocks.
 fn bad_planes(n: usize, luma: usize, u: usize, v: usize) -> bool
-    requires { ⌜ n ≤ 36864 ⌝ }
+    requires { ⌜ n ≤ 73728 ⌝ }
     ensures { λ r. ⌜ r ≡ badPlanes n luma u v ⌝ }
 {
     (luma != 256 * n) | (u != 64 * n) | (v != 64 * n)
@@ -36,9 +50,9 @@ fn bad_offsets(o: Offsets) -> bool
     ((a < -12) | (12 < a)) | ((b < -12) | (12 < b)) | ((c < -12) | (12 < c))
 }
 
-// Checks 1 to 3. `outside`: check 2 applies.
-pub fn refuse_picture(size: Size, outside: bool, luma: usize, u: usize, v: usize) -> u32
-    ensures { λ r. ⌜ r ≡ refusal (pictureChecks size outside luma u v) ⌝ }
+// Checks 1, 2, 19 and 3. `outside`: check 2 applies.
+pub fn refuse_picture(part: Part, size: Size, outside: bool, luma: usize, u: usize, v: usize) -> u32
+    ensures { λ r. ⌜ r ≡ refusal (pictureChecks part size outside luma u v) ⌝ }
 {
     if bad_size(size) {
         return 1;
@@ -46,7 +60,10 @@ pub fn refuse_picture(size: Size, outside: bool, luma: usize, u: usize, v: usize
     if outside {
         return 2;
     }
-    if bad_planes(size.w * size.h, luma, u, v) {
+    if bad_parity(part) {
+        return 19;
+    }
+    if bad_planes(frame_of_part(part, size.w * size.h), luma, u, v) {
         return 3;
     }
     0

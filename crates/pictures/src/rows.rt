@@ -1,4 +1,5 @@
-// The two calls that filter rows. Neither asks anything of its caller; a refusal changes no byte.
+// The two calls that filter rows of a picture, which is a frame or a field of one: `size` is the picture's, the
+// planes are the frame's. Neither asks anything of its caller; a refusal changes no byte.
 ghost use mathlib.Core.Path.{_≡_};
 ghost use mathlib.Core.Bool.{false};
 ghost use Prim.Native.Nat.{_*_, _≤_};
@@ -7,7 +8,7 @@ ghost use lib.ListN.{length};
 ghost use Rattle.laws.specs.Refusal.{refusal};
 ghost use Rattle.edges.specs.Picture.{planes};
 ghost use Rattle.pictures.specs.Checks.{lent, entryChecks};
-ghost use Rattle.pictures.specs.Rows.{qpsFrom, rowReads, rowChecks, RowOutcome, FrameOutcome};
+ghost use Rattle.pictures.specs.Rows.{qpsFrom, rowReads, rowChecks, RowOutcome, WholeOutcome};
 use crate::checks::any_bad_flag;
 use crate::checks::any_bad_strength;
 use crate::checks::any_over;
@@ -16,6 +17,7 @@ use crate::checks::refuse_picture;
 use edges::Offsets;
 use edges::picture::rows;
 use lines::tables::all;
+use sizes::Part;
 use sizes::Size;
 
 // The first macroblock whose QP rows a to b read.
@@ -53,6 +55,7 @@ fn refuse_row_entries(w: usize, a: usize, b: usize, strengths: &[u8], qps: &[u8]
 
 // All checks of rows a to b; luma, u, v are the lengths of the planes.
 fn refuse_rows(
+    part: Part,
     size: Size,
     a: usize,
     b: usize,
@@ -64,11 +67,11 @@ fn refuse_rows(
     qps: &[u8],
     t8s: &[u8],
 ) -> u32
-    ensures { λ r. ⌜ r ≡ refusal (rowChecks (lent size o (now (strengths .entry)) (now (qps .entry)) (now (t8s .entry))) a b luma u v) ⌝ }
+    ensures { λ r. ⌜ r ≡ refusal (rowChecks part (lent size o (now (strengths .entry)) (now (qps .entry)) (now (t8s .entry))) a b luma u v) ⌝ }
 {
     let w = size.w;
     let h = size.h;
-    let k = refuse_picture(size, (b < a) | (h < b), luma, u, v);
+    let k = refuse_picture(part, size, (b < a) | (h < b), luma, u, v);
     if k != 0 {
         return k;
     }
@@ -80,8 +83,9 @@ fn refuse_rows(
 }
 
 // Rows a to b, of which b is not one. They read what lies in them, and the QPs of the row before them.
-pub fn filter_frame_rows(
+pub fn filter_rows(
     size: Size,
+    part: Part,
     a: usize,
     b: usize,
     o: Offsets,
@@ -92,9 +96,10 @@ pub fn filter_frame_rows(
     qps: &[u8],
     t8s: &[u8],
 ) -> u32
-    ensures { λ n. ⌜ RowOutcome (lent size o (now (strengths .entry)) (now (qps .entry)) (now (t8s .entry))) a b (planes (now (luma .entry)) (now (u .entry)) (now (v .entry))) n (planes (now (luma .exit)) (now (u .exit)) (now (v .exit))) ⌝ }
+    ensures { λ n. ⌜ RowOutcome part (lent size o (now (strengths .entry)) (now (qps .entry)) (now (t8s .entry))) a b (planes (now (luma .entry)) (now (u .entry)) (now (v .entry))) n (planes (now (luma .exit)) (now (u .exit)) (now (v .exit))) ⌝ }
 {
     let n = refuse_rows(
+        part,
         size,
         a,
         b,
@@ -110,13 +115,14 @@ pub fn filter_frame_rows(
         return n;
     }
     let t = all();
-    rows(luma, u, v, &t, size, a, b, qps, t8s, strengths, o);
+    rows(luma, u, v, &t, part, size, a, b, qps, t8s, strengths, o);
     0
 }
 
 // A whole picture.
-pub fn filter_frame(
+pub fn filter_whole(
     size: Size,
+    part: Part,
     o: Offsets,
     luma: &mut [u8],
     u: &mut [u8],
@@ -125,7 +131,7 @@ pub fn filter_frame(
     qps: &[u8],
     t8s: &[u8],
 ) -> u32
-    ensures { λ n. ⌜ FrameOutcome (lent size o (now (strengths .entry)) (now (qps .entry)) (now (t8s .entry))) (planes (now (luma .entry)) (now (u .entry)) (now (v .entry))) n (planes (now (luma .exit)) (now (u .exit)) (now (v .exit))) ⌝ }
+    ensures { λ n. ⌜ WholeOutcome part (lent size o (now (strengths .entry)) (now (qps .entry)) (now (t8s .entry))) (planes (now (luma .entry)) (now (u .entry)) (now (v .entry))) n (planes (now (luma .exit)) (now (u .exit)) (now (v .exit))) ⌝ }
 {
-    filter_frame_rows(size, 0, size.h, o, luma, u, v, strengths, qps, t8s)
+    filter_rows(size, part, 0, size.h, o, luma, u, v, strengths, qps, t8s)
 }

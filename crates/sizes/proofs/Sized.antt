@@ -1,4 +1,5 @@
--- What check 1 says when it does not apply. Assumes nothing.
+-- What check 1 says when it does not apply, and how large the planes of a part's frame are then. Assumes
+-- nothing.
 use mathlib.Core.Path.{_≡_}
 use mathlib.Core.Bool.{false, _||_}
 use Prim.Native.Nat.{ℕ, _*_, _≤_, _<_}
@@ -7,7 +8,9 @@ use native.Mathlib.Omega.{arith}
 use borrow.Author.Tests.{eqb-false, ltb-false}
 use lib.Dec.{eqb, ltb}
 use Rattle.laws.proofs.Bools.{or-false}
-use Rattle.sizes.specs.Sizes.{badSize}
+use Rattle.sizes.specs.Sizes.{badSize, frameOfPart}
+use Rattle.sizes.specs.declared.Part.{Part}
+use Rattle.sizes.specs.declared.Part.the-variants.{Frame, Field}
 use Rattle.sizes.specs.declared.Size.{Size}
 
 -- both sides are 1 to 256
@@ -46,3 +49,13 @@ pub sized : (size : Size) → badSize size ≡ false → Sized size
 sized size e =
     let a = or-false (eqb (size .w) 0 || ltb 256 (size .w) || eqb (size .h) 0 || ltb 256 (size .h)) (ltb 36864 (size .w * size .h)) e in
     record { both = sides (size .w) (size .h) (a .0); most = ltb-false 36864 (size .w * size .h) (a .1) }
+
+-- the planes of a part's frame: at most two pictures
+pub frame-most : (part : Part) {n : ℕ} → n ≤ 36864 → frameOfPart part n ≤ 73728
+frame-most Frame h = omega arith
+frame-most (Field p) h = omega arith
+
+-- more macroblocks want more room
+pub frame-of-part-le : (part : Part) {n m : ℕ} → n ≤ m → frameOfPart part n ≤ frameOfPart part m
+frame-of-part-le Frame h = h
+frame-of-part-le (Field p) h = omega arith

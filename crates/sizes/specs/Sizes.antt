@@ -1,7 +1,9 @@
--- Checks 1 and 2, each as whether it applies: docs/RULES.md, "Sizes and layouts" and "Answers".
+-- Checks 1, 2 and 19, each as whether it applies: docs/RULES.md, "Sizes and layouts", "Fields" and "Answers".
 use Prim.Native.Nat.{ℕ, _*_}
-use mathlib.Core.Bool.{Bool, _||_}
+use mathlib.Core.Bool.{Bool, false, _||_}
 use lib.Dec.{eqb, ltb, leb}
+use Rattle.sizes.specs.declared.Part.{Part}
+use Rattle.sizes.specs.declared.Part.the-variants.{Frame, Field}
 use Rattle.sizes.specs.declared.Size.{Size}
 
 -- 1: W, H or their product is outside its range
@@ -11,3 +13,13 @@ badSize size = eqb (size .w) 0 || ltb 256 (size .w) || eqb (size .h) 0 || ltb 25
 -- 2: the macroblock is outside the picture
 abbrev pub outsideOf : Size → ℕ → ℕ → Bool
 outsideOf size x y = leb (size .w) x || leb (size .h) y
+
+-- 19: a field's parity is not 0 or 1
+abbrev pub badParity : Part → Bool
+badParity Frame = false
+badParity (Field p) = ltb 1 p
+
+-- a picture of n macroblocks lies in planes of so many: the frame of a field has two fields
+abbrev pub frameOfPart : Part → ℕ → ℕ
+frameOfPart Frame n = n
+frameOfPart (Field p) n = 2 * n

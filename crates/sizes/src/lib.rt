@@ -1,12 +1,29 @@
-// A picture's size, and the check of it that every call makes first. Whatever speaks of pictures stands on
-// this crate.
+// A picture's size, which lines of the planes it has, and the checks of both. Whatever speaks of pictures
+// stands on this crate.
 ghost use mathlib.Core.Path.{_≡_};
-ghost use Rattle.sizes.specs.Sizes.{badSize};
+ghost use Rattle.sizes.specs.Sizes.{badSize, badParity};
 
 // Width and height in macroblocks.
 pub struct Size {
     pub w: usize,
     pub h: usize,
+}
+
+// Which part of a frame's planes a picture is: the frame itself, or the field of a parity, which is a picture
+// of its own on every second line: 0 the even lines, 1 the odd ones.
+pub enum Part {
+    Frame,
+    Field(u8),
+}
+
+// Check 19.
+pub fn bad_parity(part: Part) -> bool
+    ensures { λ r. ⌜ r ≡ badParity part ⌝ }
+{
+    match part {
+        Part::Frame => false,
+        Part::Field(parity) => 1 < parity,
+    }
 }
 
 // Check 1.

@@ -33,7 +33,7 @@ pub record Own (w x y i : ℕ) : Type 0 where
 four : (n : ℕ) → n % 4 < 4
 four n = omega arith
 
-q-own : (w x y k : ℕ) → Own w x y (qBlock w x y k)
+pub q-own : (w x y k : ℕ) → Own w x y (qBlock w x y k)
 q-own w x y k = go (vertical k)
   where
     go : (b : Bool) → Own w x y (ownBlock w x y (cond b (segment k) (edge k)) (cond b (edge k) (segment k)))
@@ -54,7 +54,7 @@ p-own w x y k n = go (vertical k)
     go false = record { r = edge k - 1; c = segment k; row = omega (arith, four (k / 4)); col = four k; is = omega (arith, up) }
 
 -- ---- what is true of every own block is true of each
-at : (w x y i : ℕ) (f : ℕ → Bool) → everyOwn w x y f ≡ true → Own w x y i → f i ≡ true
+pub at : (w x y i : ℕ) (f : ℕ → Bool) → everyOwn w x y f ≡ true → Own w x y i → f i ≡ true
 at w x y i f e o = ap f (o .is) ∙ every-at 4 (o .c) _ (every-at 4 (o .r) _ e (o .row)) (o .col)
 
 true→T : {b : Bool} → b ≡ true → T b

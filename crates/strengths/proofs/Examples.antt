@@ -2,7 +2,8 @@
 use mathlib.Core.Path.{_≡_, refl}
 use mathlib.Core.Bool.{true, false}
 use mathlib.Core.List.{List, [], _∷_, _++_, map, replicate}
-use lib.IntN.{pos, negsuc}
+use Prim.Native.Nat.{ℕ}
+use lib.IntN.{ℤ, pos, negsuc}
 use Rattle.laws.specs.Some.{some}
 use Rattle.motion.specs.Far.{outside}
 use Rattle.motion.specs.Grids.{Grids, grids, blockRead}
@@ -11,7 +12,8 @@ use Rattle.sizes.specs.declared.Size.{Size}
 use Rattle.strengths.specs.Blocks.{someRead}
 use Rattle.strengths.specs.Checks.{disagree}
 use Rattle.strengths.specs.Calls.{answerOf, oneFlag}
-use Rattle.strengths.specs.Strength.{frame, between, strengthAt}
+use Rattle.strengths.specs.Strength.{frame, field, between, strengthAt}
+use Rattle.strengths.specs.declared.kinds.Mode.{Mode}
 
 -- ---- one macroblock, all intra, no list 1
 abbrev pub oneMb : Size
@@ -62,3 +64,52 @@ besideMoved =
 beside-moved : map (strengthAt frame besideMoved 2 (oneFlag false) 1 0) (0 ∷ 1 ∷ 3 ∷ 4 ∷ 20 ∷ []) ≡ 2 ∷ 1 ∷ 1 ∷ 0 ∷ 0 ∷ []
 unfolding strengthAt between blockRead interStrength differ mismatched used outside
 beside-moved = refl
+
+-- ---- fields and frames. One inter macroblock whose first block alone moves, by (a, b): bytes 4 and 20 stand
+-- between it and the blocks to its right and below it
+abbrev pub firstMoved : ℤ → ℤ → Grids
+firstMoved a b = grids (replicate 16 1) (replicate 16 0) (replicate 16 (pos 0)) (a ∷ b ∷ replicate 30 (pos 0)) [] []
+
+abbrev pub movedBy : Mode → ℤ → ℤ → ℕ → ℕ
+movedBy mode a b k = strengthAt mode (firstMoved a b) 1 (oneFlag false) 0 0 k
+
+-- vertically a field is near from -1 to 1, where a frame is from -3 to 3
+moved-down : (map (λ b. movedBy field (pos 0) b 4) (negsuc 1 ∷ negsuc 0 ∷ pos 1 ∷ pos 2 ∷ []) ≡ 1 ∷ 0 ∷ 0 ∷ 1 ∷ [])
+    × (map (λ b. movedBy field (pos 0) b 20) (negsuc 1 ∷ negsuc 0 ∷ pos 1 ∷ pos 2 ∷ []) ≡ 1 ∷ 0 ∷ 0 ∷ 1 ∷ [])
+    × (map (λ b. movedBy frame (pos 0) b 4) (negsuc 1 ∷ negsuc 0 ∷ pos 1 ∷ pos 2 ∷ []) ≡ 0 ∷ 0 ∷ 0 ∷ 0 ∷ [])
+    × (map (λ b. movedBy frame (pos 0) b 20) (negsuc 3 ∷ negsuc 2 ∷ pos 3 ∷ pos 4 ∷ []) ≡ 1 ∷ 0 ∷ 0 ∷ 1 ∷ [])
+unfolding strengthAt between blockRead interStrength differ mismatched used outside
+moved-down = (refl, refl, refl, refl)
+
+-- horizontally both are near from -3 to 3
+moved-right : (map (λ a. movedBy field a (pos 0) 4) (negsuc 3 ∷ negsuc 2 ∷ pos 3 ∷ pos 4 ∷ []) ≡ 1 ∷ 0 ∷ 0 ∷ 1 ∷ [])
+    × (map (λ a. movedBy frame a (pos 0) 4) (negsuc 3 ∷ negsuc 2 ∷ pos 3 ∷ pos 4 ∷ []) ≡ 1 ∷ 0 ∷ 0 ∷ 1 ∷ [])
+unfolding strengthAt between blockRead interStrength differ mismatched used outside
+moved-right = (refl, refl)
+
+-- two intra macroblocks, one above the other or side by side
+abbrev pub high : Size
+high = record { w = 1; h = 2 }
+
+abbrev pub wideTwo : Size
+wideTwo = record { w = 2; h = 1 }
+
+abbrev pub twoIntra : Grids
+twoIntra = grids (replicate 32 0) (replicate 32 0) (replicate 32 (negsuc 0)) (replicate 64 (pos 0)) [] []
+
+-- calls on these, and on a first block that moves down by 2, are served (proofs/Refused has them)
+pub field-served : (answerOf oneMb 0 0 (firstMoved (pos 0) (pos 2)) false 32 ≡ 0) × (answerOf high 0 1 twoIntra false 64 ≡ 0) × (answerOf wideTwo 1 0 twoIntra false 64 ≡ 0)
+unfolding answerOf someRead some disagree
+field-served = (refl, refl, refl)
+
+-- the lower one has 3 on its upper edge in a field, 4 in a frame; inside 3 both ways
+below-intra : (map (strengthAt field twoIntra 1 (oneFlag false) 0 1) (0 ∷ 4 ∷ 16 ∷ 19 ∷ 20 ∷ []) ≡ 0 ∷ 3 ∷ 3 ∷ 3 ∷ 3 ∷ [])
+    × (map (strengthAt frame twoIntra 1 (oneFlag false) 0 1) (0 ∷ 4 ∷ 16 ∷ 19 ∷ 20 ∷ []) ≡ 0 ∷ 3 ∷ 4 ∷ 4 ∷ 3 ∷ [])
+unfolding strengthAt between blockRead
+below-intra = (refl, refl)
+
+-- the right one has 4 on its left edge in both
+right-of-intra : (map (strengthAt field twoIntra 2 (oneFlag false) 1 0) (0 ∷ 3 ∷ 4 ∷ 16 ∷ []) ≡ 4 ∷ 4 ∷ 3 ∷ 0 ∷ [])
+    × (map (strengthAt frame twoIntra 2 (oneFlag false) 1 0) (0 ∷ 3 ∷ 4 ∷ 16 ∷ []) ≡ 4 ∷ 4 ∷ 3 ∷ 0 ∷ [])
+unfolding strengthAt between blockRead
+right-of-intra = (refl, refl)

@@ -3,6 +3,7 @@ pub mod Before
 pub mod Beside
 pub mod ByKind
 pub mod Examples
+pub mod Fields
 pub mod Inclusion
 pub mod DeriveOutcomes
 pub mod GridsFit

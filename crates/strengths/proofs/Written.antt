@@ -1,6 +1,6 @@
 -- What a strength call writes: 32 bytes that read back, none of them above 4, and no other. Assumes nothing.
 use mathlib.Core.Path.{_≡_, refl, sym, ap, _∙_}
-use mathlib.Core.Bool.{Bool, _&&_, _||_}
+use mathlib.Core.Bool.{Bool, true, false, _&&_, _||_}
 use mathlib.Core.List.{List}
 use mathlib.Core.Logic.{_⊎_, ⊎-elim}
 use Prim.Native.Nat.{ℕ, zero, suc, _+_, _*_, _≤_, _<_}
@@ -15,7 +15,7 @@ use Rattle.laws.proofs.Loop.{upTo-keeps}
 use Rattle.motion.specs.Grids.{Grids, coded, blkAt}
 use Rattle.motion.specs.declared.blocks.Blk.{Blk}
 use Rattle.motion.proofs.Laws.{strength-le}
-use Rattle.strengths.specs.Strength.{vertical, edge, qBlock, pBlock, border, skipped, intraStrength, between, strengthAt, written}
+use Rattle.strengths.specs.Strength.{vertical, edge, qBlock, pBlock, border, modeOf, skipped, intraStrength, between, strengthAt, written}
 use Rattle.strengths.specs.declared.kinds.Mode.{Mode}
 
 -- ---- n values from `first` on
@@ -60,7 +60,7 @@ module _ (i : ℕ) (f : ℕ → ℕ) (s : List ℕ) where
   unfolding written
   written-beside j h = filled-beside 32 (32 * i) f s j (λ k l e. ⊎-elim (λ p. omega arith) (λ p. omega arith) h)
 
--- ---- at most 4
+-- ---- at most 4, where the mode's upper strength is
 between-most : (v n : ℕ) (c : Bool) (p q : Blk) → n ≤ 4 → between v n c p q ≤ 4
 unfolding between
 between-most v n c p q h = cond-both (λ (m : ℕ). m ≤ 4) (p .inter && q .inter) (le-trans (strength-le v c p q) (lit≤ tt)) h
@@ -73,3 +73,11 @@ unfolding strengthAt
 strength-most mode g w t8s x y k h =
     cond-both (λ (n : ℕ). n ≤ 4) (border x y k || skipped (t8s (y * w + x)) k) {x = 0} (lit≤ tt)
     (between-most (mode .limit) (intraStrength mode k) (coded g (pBlock w x y k) || coded g (qBlock w x y k)) (blkAt g (pBlock w x y k)) (blkAt g (qBlock w x y k)) (intra-most mode k h))
+
+-- .. as it is in frames and in fields
+upper-most : (field : Bool) → modeOf field .upper ≤ 4
+upper-most true = lit≤ tt
+upper-most false = lit≤ tt
+
+pub call-most : (field : Bool) (g : Grids) (w : ℕ) (t8s : ℕ → Bool) (x y k : ℕ) → strengthAt (modeOf field) g w t8s x y k ≤ 4
+call-most field g w t8s x y k = strength-most (modeOf field) g w t8s x y k (upper-most field)

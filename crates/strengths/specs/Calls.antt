@@ -1,6 +1,7 @@
 -- What the three strength calls promise: one answer and one final content of the strengths grid, for every
 -- input. The grids are only read. The numbers are those of docs/RULES.md, "Answers", the strengths those of
--- ITU-T H.264, clause 8.7.2.1 (`strengthAt`).
+-- ITU-T H.264, clause 8.7.2.1 (`strengthAt`): of a field where `field` is true, else of a frame. No check and
+-- no answer depends on which.
 use Prim.Native.Nat.{ℕ, _+_, _*_}
 use mathlib.Core.Path.{_≡_}
 use mathlib.Core.Bool.{Bool, false, cond, not, _&&_, _||_}
@@ -12,7 +13,7 @@ use Rattle.motion.specs.Grids.{Grids}
 use Rattle.strengths.specs.Checks.{badStrengths, badBlocks, badInter, badRefs, disagree}
 use Rattle.sizes.specs.Sizes.{badSize, outsideOf}
 use Rattle.strengths.specs.Kinds.{isKind, flat, uniform}
-use Rattle.strengths.specs.Strength.{frame, strengthAt, written}
+use Rattle.strengths.specs.Strength.{modeOf, strengthAt, written}
 use Rattle.sizes.specs.declared.Size.{Size}
 use Rattle.strengths.specs.declared.kinds.Request.{Request}
 use Rattle.strengths.specs.declared.kinds.Flagged.{Flagged}
@@ -46,15 +47,15 @@ oneFlag t8 i = t8
 
 -- ---- an outcome: the answer n, and the grid before and after. A refusal leaves it as it was; else the 32
 -- bytes of the macroblock are written and no other
-pub record DeriveOutcome (size : Size) (x y : ℕ) (t8 : Bool) (g : Grids) (untrue : Bool) (s : List ℕ) (n : ℕ) (s′ : List ℕ) : Type 0 where
+pub record DeriveOutcome (size : Size) (field : Bool) (x y : ℕ) (t8 : Bool) (g : Grids) (untrue : Bool) (s : List ℕ) (n : ℕ) (s′ : List ℕ) : Type 0 where
   pub says : n ≡ answerOf size x y g untrue (length s)
-  pub leaves : s′ ≡ cond (eqb n 0) (written (y * size .w + x) (strengthAt frame g (size .w) (oneFlag t8) x y) s) s
+  pub leaves : s′ ≡ cond (eqb n 0) (written (y * size .w + x) (strengthAt (modeOf field) g (size .w) (oneFlag t8) x y) s) s
 
-abbrev pub KindOutcome : Size → Request → Grids → List ℕ → ℕ → List ℕ → Type 0
-KindOutcome size r g = DeriveOutcome size (r .x) (r .y) false g (untrueKind size r g)
+abbrev pub KindOutcome : Size → Bool → Request → Grids → List ℕ → ℕ → List ℕ → Type 0
+KindOutcome size field r g = DeriveOutcome size field (r .x) (r .y) false g (untrueKind size r g)
 
-abbrev pub FlagsOutcome : Size → Flagged → Grids → List ℕ → ℕ → List ℕ → Type 0
-FlagsOutcome size r g = DeriveOutcome size (r .x) (r .y) (r .t8) g (untrueFlags (size .w) r g)
+abbrev pub FlagsOutcome : Size → Bool → Flagged → Grids → List ℕ → ℕ → List ℕ → Type 0
+FlagsOutcome size field r g = DeriveOutcome size field (r .x) (r .y) (r .t8) g (untrueFlags (size .w) r g)
 
-abbrev pub PlainOutcome : Size → Plain → Grids → List ℕ → ℕ → List ℕ → Type 0
-PlainOutcome size r g = DeriveOutcome size (r .x) (r .y) (r .t8) g false
+abbrev pub PlainOutcome : Size → Bool → Plain → Grids → List ℕ → ℕ → List ℕ → Type 0
+PlainOutcome size field r g = DeriveOutcome size field (r .x) (r .y) (r .t8) g false

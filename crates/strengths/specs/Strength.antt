@@ -1,9 +1,10 @@
--- The 32 strengths of a macroblock, straight from the grids: ITU-T H.264, clause 8.7.2.1, for the mode of
--- progressive frames (`frame`). Byte k is segment k % 4 of edge k / 4 % 4, vertical edges first. Between
--- blocks p and q an edge lies to the left of q or above it. A lone intra macroblock has 0 on edges 0 and 3 on
--- the others; beside an intra one a macroblock has 4 on its left edge (proofs/Examples).
+-- The 32 strengths of a macroblock, straight from the grids: ITU-T H.264, clause 8.7.2.1, for progressive
+-- frames (`frame`) and for fields (`field`). Byte k is segment k % 4 of edge k / 4 % 4, vertical edges first.
+-- Between blocks p and q an edge lies to the left of q or above it. A lone intra macroblock has 0 on edges 0
+-- and 3 on the others; beside an intra one a macroblock has 4 on its left edge, below one 4 on its upper edge
+-- in a frame and 3 in a field (proofs/Examples).
 use Prim.Native.Nat.{ℕ, _+_, _-_, _*_, _/_, _%_}
-use mathlib.Core.Bool.{Bool, cond, _&&_, _||_}
+use mathlib.Core.Bool.{Bool, true, false, cond, _&&_, _||_}
 use mathlib.Core.List.{List}
 use lib.Dec.{eqb, ltb}
 use lib.ListN.{set}
@@ -41,9 +42,20 @@ pBlock w x y k = qBlock w x y k - cond (vertical k) 1 (4 * w)
 abbrev pub border : ℕ → ℕ → ℕ → Bool
 border x y k = eqb (edge k) 0 && eqb (cond (vertical k) x y) 0
 
--- ---- frames: near vectors differ vertically by 3 at most, and an intra upper edge has 4 (fields: 1 and 3)
+-- ---- frames: near vectors differ vertically by 3 at most, and an intra upper edge has 4
 abbrev pub frame : Mode
 frame = record { limit = 3; upper = 4 }
+
+-- fields, clause 8.7.2.1: vertically vectors are far from 4 quarter frame samples on, which are 2 quarter
+-- field samples, so near ones differ by 1 at most; and bS 4 asks for a vertical edge, so an intra upper edge
+-- has 3
+abbrev pub field : Mode
+field = record { limit = 1; upper = 3 }
+
+-- by whether it is a field
+abbrev pub modeOf : Bool → Mode
+modeOf true = field
+modeOf false = frame
 
 -- beside an intra block: 3 on an inner edge, 4 on the left one, on the upper one by the mode
 abbrev pub outerIntra : Mode → Bool → ℕ

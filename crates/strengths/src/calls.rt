@@ -1,4 +1,5 @@
-// The three strength calls. None asks anything of its caller; a refusal changes no byte.
+// The three strength calls: of a field where `field` is true, else of a frame. None asks anything of its
+// caller; a refusal changes no byte.
 ghost use mathlib.Core.Path.{_≡_};
 ghost use mathlib.Core.Bool.{false};
 ghost use Prim.Native.Nat.{_+_};
@@ -15,10 +16,10 @@ use crate::derive::derive;
 use crate::derive::own_same;
 use crate::kinds::Flagged;
 use crate::kinds::Known;
-use crate::kinds::Mode;
 use crate::kinds::Plain;
 use crate::kinds::Request;
 use crate::kinds::kind_known;
+use crate::kinds::mode_of;
 use crate::kinds::says_any;
 use crate::kinds::untrue_by;
 use crate::walks::Sought;
@@ -61,9 +62,10 @@ fn first_inter(inter: &[u8], w: usize, x: usize, y: usize) -> bool
     inter[16 * (y * w) + 4 * x] == 1
 }
 
-// What the three have in common: checks 1 to 12, then the strengths of a frame.
+// What the three have in common: checks 1 to 12, then the strengths.
 fn derive_known<'a>(
     size: Size,
+    field: bool,
     x: usize,
     y: usize,
     t8: bool,
@@ -76,7 +78,7 @@ fn derive_known<'a>(
     mv1: &'a [i16],
     strengths: &mut [u8],
 ) -> u32
-    ensures { λ n. ⌜ DeriveOutcome size x y t8 (grids (now (inter .entry)) (now (nnz .entry)) (now (ref0 .entry)) (now (mv0 .entry)) (now (ref1 .entry)) (now (mv1 .entry))) (untrueKnown known (grids (now (inter .entry)) (now (nnz .entry)) (now (ref0 .entry)) (now (mv0 .entry)) (now (ref1 .entry)) (now (mv1 .entry))) (size .w) x y) (now (strengths .entry)) n (now (strengths .exit)) ⌝ }
+    ensures { λ n. ⌜ DeriveOutcome size field x y t8 (grids (now (inter .entry)) (now (nnz .entry)) (now (ref0 .entry)) (now (mv0 .entry)) (now (ref1 .entry)) (now (mv1 .entry))) (untrueKnown known (grids (now (inter .entry)) (now (nnz .entry)) (now (ref0 .entry)) (now (mv0 .entry)) (now (ref1 .entry)) (now (mv1 .entry))) (size .w) x y) (now (strengths .entry)) n (now (strengths .exit)) ⌝ }
 {
     let w = size.w;
     let n = refuse_derive(
@@ -98,7 +100,7 @@ fn derive_known<'a>(
         return 12;
     }
     let kind = kind_known(known, first_inter(inter, w, x, y));
-    let mode = Mode { limit: 3, upper: 4 };
+    let mode = mode_of(field);
     derive(
         kind,
         mode,
@@ -120,6 +122,7 @@ fn derive_known<'a>(
 // Strengths of a macroblock whose kind is known; its transform counts as 4x4.
 pub fn derive_mb_kind<'a>(
     size: Size,
+    field: bool,
     r: Request,
     inter: &[u8],
     nnz: &[u8],
@@ -129,12 +132,13 @@ pub fn derive_mb_kind<'a>(
     mv1: &'a [i16],
     strengths: &mut [u8],
 ) -> u32
-    ensures { λ n. ⌜ KindOutcome size r (grids (now (inter .entry)) (now (nnz .entry)) (now (ref0 .entry)) (now (mv0 .entry)) (now (ref1 .entry)) (now (mv1 .entry))) (now (strengths .entry)) n (now (strengths .exit)) ⌝ }
+    ensures { λ n. ⌜ KindOutcome size field r (grids (now (inter .entry)) (now (nnz .entry)) (now (ref0 .entry)) (now (mv0 .entry)) (now (ref1 .entry)) (now (mv1 .entry))) (now (strengths .entry)) n (now (strengths .exit)) ⌝ }
 {
     let kind = r.kind;
     let known = Known::Stated(kind);
     derive_known(
         size,
+        field,
         r.x,
         r.y,
         false,
@@ -152,6 +156,7 @@ pub fn derive_mb_kind<'a>(
 // Strengths with flags that the caller sets where they are true.
 pub fn derive_mb_bs<'a>(
     size: Size,
+    field: bool,
     f: Flagged,
     inter: &[u8],
     nnz: &[u8],
@@ -161,7 +166,7 @@ pub fn derive_mb_bs<'a>(
     mv1: &'a [i16],
     strengths: &mut [u8],
 ) -> u32
-    ensures { λ n. ⌜ FlagsOutcome size f (grids (now (inter .entry)) (now (nnz .entry)) (now (ref0 .entry)) (now (mv0 .entry)) (now (ref1 .entry)) (now (mv1 .entry))) (now (strengths .entry)) n (now (strengths .exit)) ⌝ }
+    ensures { λ n. ⌜ FlagsOutcome size field f (grids (now (inter .entry)) (now (nnz .entry)) (now (ref0 .entry)) (now (mv0 .entry)) (now (ref1 .entry)) (now (mv1 .entry))) (now (strengths .entry)) n (now (strengths .exit)) ⌝ }
 {
     let known = Known::Flags {
         flat: f.flat,
@@ -169,6 +174,7 @@ pub fn derive_mb_bs<'a>(
     };
     derive_known(
         size,
+        field,
         f.x,
         f.y,
         f.t8,
@@ -186,6 +192,7 @@ pub fn derive_mb_bs<'a>(
 // Strengths of a macroblock of which nothing is known but its transform.
 pub fn derive_mb<'a>(
     size: Size,
+    field: bool,
     p: Plain,
     inter: &[u8],
     nnz: &[u8],
@@ -195,7 +202,7 @@ pub fn derive_mb<'a>(
     mv1: &'a [i16],
     strengths: &mut [u8],
 ) -> u32
-    ensures { λ n. ⌜ PlainOutcome size p (grids (now (inter .entry)) (now (nnz .entry)) (now (ref0 .entry)) (now (mv0 .entry)) (now (ref1 .entry)) (now (mv1 .entry))) (now (strengths .entry)) n (now (strengths .exit)) ⌝ }
+    ensures { λ n. ⌜ PlainOutcome size field p (grids (now (inter .entry)) (now (nnz .entry)) (now (ref0 .entry)) (now (mv0 .entry)) (now (ref1 .entry)) (now (mv1 .entry))) (now (strengths .entry)) n (now (strengths .exit)) ⌝ }
 {
     let known = Known::Flags {
         flat: false,
@@ -203,6 +210,7 @@ pub fn derive_mb<'a>(
     };
     derive_known(
         size,
+        field,
         p.x,
         p.y,
         p.t8,

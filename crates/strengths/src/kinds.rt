@@ -1,12 +1,24 @@
-// What a caller may know of a macroblock beforehand, and the requests that carry it beside the coordinates.
+// The picture's mode; what a caller may know of a macroblock beforehand, and the requests that carry it
+// beside the coordinates.
 ghost use mathlib.Core.Path.{_≡_};
 ghost use Rattle.strengths.specs.ByKind.{kindBy, kindOf, saysAny, untrueBy, kindKnown};
+ghost use Rattle.strengths.specs.Strength.{modeOf};
 
 // What strengths take of the picture's mode: the most by which near vectors differ vertically, and the
 // strength of an upper edge beside an intra block.
 pub struct Mode {
     pub limit: u8,
     pub upper: u8,
+}
+
+// The mode of a field, or else of a frame.
+pub fn mode_of(field: bool) -> Mode
+    ensures { λ r. ⌜ r ≡ modeOf field ⌝ }
+{
+    if field {
+        return Mode { limit: 1, upper: 3 };
+    }
+    Mode { limit: 3, upper: 4 }
 }
 
 // What all 16 blocks of a macroblock have in common: docs/RULES.md, "Strengths".

@@ -8,7 +8,7 @@ use native.Mathlib.Numerals.{add-one}
 use native.Mathlib.Omega.{arith}
 use lib.ListN.{length, getD, set, take, drop, drop-of-length-le}
 use lib.Seq.{drop-cons, take-suc-set, append-snoc, take-all}
-use Rattle.visits.specs.Visit.{At, State, Call, fresh, visit, VisitOutcomeOf, run, answers, itself}
+use Rattle.visits.specs.Visit.{At, State, fresh, visit, VisitOutcomeOf, run, answers, itself}
 use Rattle.visits.specs.AnyOrder.{AnyOrder}
 use Rattle.visits.specs.Instance.{AsksPlace, Commutes}
 use Rattle.visits.specs.Calls.{Calls, none, more}
@@ -41,45 +41,37 @@ module _ {W : ℕ} {S : Type 0} {step : ℕ → S → S} {early : State S → At
       let e = outcome-is-visit o in
       (k .0 ∙ ap (run (visit W step early) rs) (e .1), λ i. e .0 i ∷ (k .1 ∙ ap (answers (visit W step early) rs) (e .1)) i)
 
-  -- ---- a loop over requests: a turn
-  pub served-more : {rs : List At} {start : State S} {k : ℕ} {s t : State S} {out : List ℕ} {n : ℕ} → k < length rs → length out ≡ length rs
-      → Served (visit W step early) rs start k s out → VisitOutcomeOf W step early s (getD rs k (0, 0)) n t
-      → Served (visit W step early) rs start (k + 1) t (set out k n)
-  served-more {rs} {start} {k} {s} {t} {out} {n} h l v o = rw add-one (record { state = ran ∙ v .state; said = spoke ∙ v .said })
-    where
-      r : At
-      r = getD rs k (0, 0)
-
-      e : (n ≡ visit W step early s r .0) × (t ≡ visit W step early s r .1)
-      e = outcome-is-visit o
-
-      cut : drop k rs ≡ r ∷ drop (suc k) rs
-      cut = drop-cons rs k (0, 0) h
-
-      ran : run (visit W step early) (drop (suc k) rs) t ≡ run (visit W step early) (drop k rs) s
-      ran = rw (cut, e .1)
-
-      spoke : take (suc k) (set out k n) ++ answers (visit W step early) (drop (suc k) rs) t ≡ take k out ++ answers (visit W step early) (drop k rs) s
-      spoke = rw (take-suc-set out k n (omega arith), append-snoc, cut, e .0, e .1)
-
-  -- .. over a list of columns and a list of rows
-  pub served-turn : (xs ys : List ℕ) {start : State S} {k : ℕ} {s t : State S} {out : List ℕ} {n : ℕ} → k < length xs → length xs ≡ length ys
-      → length out ≡ length xs → Served (visit W step early) (requests xs ys) start k s out → VisitOutcomeOf W step early s (getD xs k 0, getD ys k 0) n t
-      → Served (visit W step early) (requests xs ys) start (k + 1) t (set out k n)
-  served-turn xs ys {k = k} h e l v o =
-      let len = requests-length xs ys e in
-      served-more (omega arith) (omega arith) v (rw (request-at xs ys k e) o)
-
--- its start and its end, with any call
-pub served-none : {A S : Type 0} {call : Call A S} {rs : List At} {s : State S} {out : List A} → Served call rs s 0 s out
+-- ---- a loop over requests, with any call: its start, a turn, its end
+pub served-none : {A U R : Type 0} {call : U → R → A × U} {rs : List R} {s : U} {out : List A} → Served call rs s 0 s out
 served-none = record { state = refl; said = refl }
 
-pub served-all : {A S : Type 0} {call : Call A S} {rs : List At} {start : State S} {k : ℕ} {s : State S} {out : List A}
+pub served-more : {A U R : Type 0} {call : U → R → A × U} {rs : List R} {start : U} {k : ℕ} {s t : U} {out : List A} {n : A} (d : R) → k < length rs → length out ≡ length rs
+    → Served call rs start k s out → (n ≡ call s (getD rs k d) .0) × (t ≡ call s (getD rs k d) .1) → Served call rs start (k + 1) t (set out k n)
+served-more {call = call} {rs} {start} {k} {s} {t} {out} {n} d h l v e = rw add-one (record { state = ran ∙ v .state; said = spoke ∙ v .said })
+  where
+    cut : drop k rs ≡ getD rs k d ∷ drop (suc k) rs
+    cut = drop-cons rs k d h
+
+    ran : run call (drop (suc k) rs) t ≡ run call (drop k rs) s
+    ran = rw (cut, e .1)
+
+    spoke : take (suc k) (set out k n) ++ answers call (drop (suc k) rs) t ≡ take k out ++ answers call (drop k rs) s
+    spoke = rw (take-suc-set out k n (omega arith), append-snoc, cut, e .0, e .1)
+
+pub served-all : {A U R : Type 0} {call : U → R → A × U} {rs : List R} {start : U} {k : ℕ} {s : U} {out : List A}
     → length rs ≤ k → length out ≡ length rs → Served call rs start k s out → (s ≡ run call rs start) × (out ≡ answers call rs start)
 served-all {rs = rs} {k = k} {out = out} h l v = (rw e at (v .state), rw (e, append-nil, take-all k out (omega arith)) at (v .said))
   where
     e : drop k rs ≡ []
     e = drop-of-length-le rs {i = k} h
+
+-- a turn that is a visit, over a list of columns and a list of rows
+pub served-turn : {W : ℕ} {S : Type 0} {step : ℕ → S → S} {early : State S → At → ℕ} (xs ys : List ℕ) {start : State S} {k : ℕ} {s t : State S} {out : List ℕ} {n : ℕ}
+    → k < length xs → length xs ≡ length ys → length out ≡ length xs → Served (visit W step early) (requests xs ys) start k s out
+    → VisitOutcomeOf W step early s (getD xs k 0, getD ys k 0) n t → Served (visit W step early) (requests xs ys) start (k + 1) t (set out k n)
+served-turn xs ys {k = k} h e l v o =
+    let len = requests-length xs ys e in
+    served-more (0, 0) (omega arith) (omega arith) v (outcome-is-visit (rw (request-at xs ys k e) o))
 
 -- ---- demand 3 over the contracts alone, and the numbers that the calls answered
 pub calls-any-order : (W H : ℕ) {S : Type 0} (step : ℕ → S → S) (early : State S → At → ℕ) → AsksPlace W H early → Commutes W step

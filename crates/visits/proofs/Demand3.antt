@@ -1,6 +1,7 @@
 -- Demand 3, of the visit that the code makes: the filter is that of demand 2, the checks are those of
 -- docs/RULES.md, "Answers". `AnyOrder` has its sentences one by one. Assumes nothing.
 use mathlib.Core.Path.{_≡_, refl, sym, ap, _∙_}
+use mathlib.Core.Bool.{Bool}
 use mathlib.Core.Logic.{_⊎_}
 use mathlib.Core.List.{List, [], _∷_, map}
 use Prim.Native.Nat.{ℕ, _*_, _<_}
@@ -17,6 +18,7 @@ use Rattle.visits.specs.Beyond.{Beyond3}
 use Rattle.visits.specs.Calls.{Calls}
 use Rattle.visits.specs.Promise.{requests, visitOf, unvisited, uneven, VisitOutcome, ReplayOutcome}
 use Rattle.pictures.specs.Checks.{Lent, heldOf}
+use Rattle.sizes.specs.declared.Part.the-variants.{Frame}
 use Rattle.visits.specs.Checks.{earlyOf, Sound, Fit}
 use Rattle.visits.proofs.AnyOrder.{any-order, beyond}
 use Rattle.visits.proofs.ByContract.{any-order-by-contract}
@@ -45,13 +47,13 @@ module _ (d : Lent) (wide : 0 < d .size .w) where
 
   -- .. and of a call whose answer holds more than the number, if with the number it keeps that contract
   pub by-contract : {A : Type 0} (number : A → ℕ) (call : Call A Planes)
-      → ((s : State Planes) (r : At) → VisitOutcome d s r (number (call s r .0)) (call s r .1))
+      → ((s : State Planes) (r : At) → VisitOutcome Frame d s r (number (call s r .0)) (call s r .1))
       → Demand3 (d .size .w) (d .size .h) (stepOf (heldOf d)) (earlyOf d) number call
   by-contract number call = any-order-by-contract (d .size .w) (d .size .h) (stepOf (heldOf d)) (earlyOf d) number call (asks-place d) (commutes d wide)
 
   -- .. and of what `replay` leaves, where the marks that it is lent are all 0
   pub of-replay : {start : Planes} {ms xs ys out out′ : List ℕ} {n : ℕ} {now : State Planes} → length ms ≡ d .size .w * d .size .h
-      → ((i : ℕ) → i < d .size .w * d .size .h → getD ms i 0 ≡ 0) → ReplayOutcome d xs ys (start, ms) out n now out′
+      → ((i : ℕ) → i < d .size .w * d .size .h → getD ms i 0 ≡ 0) → ReplayOutcome Frame d xs ys (start, ms) out n now out′
       → AnyOrder (d .size .w) (d .size .h) (stepOf (heldOf d)) (earlyOf d) itself (visitOf d) start now
   of-replay {start} {ms} {xs} {ys} {out} l zeros r =
       rw (r .leaves, zeros-are-fresh (d .size .w) (d .size .h) ms l zeros)
@@ -68,9 +70,9 @@ module _ (d : Lent) (wide : 0 < d .size .w) where
   same-as-whole start rs all = beyond-3 start rs .whole all ∙ sym (frame-steps (heldOf d) (d .size .h) start)
 
   -- .. and with strengths derived from the 4x4 grids g, the standard's picture straight from these
-  pub visited-from-grids : (g : Grids) → Derived g (d .size) (d .t8s) (d .strengths) → (start : Planes) (rs : List At) → let now = run (visitOf d) rs (unvisited d start) in
-      AllVisited (d .size .w) (d .size .h) (now .1) → now .0 ≡ pictureOf g (d .size) (d .qps) (d .t8s) (d .offsets) start
-  visited-from-grids g k start rs all = same-as-whole start rs all ∙ derived-picture g (d .size) (d .t8s) (d .qps) (d .strengths) (d .offsets) start k
+  pub visited-from-grids : (field : Bool) (g : Grids) → Derived field g (d .size) (d .t8s) (d .strengths) → (start : Planes) (rs : List At) → let now = run (visitOf d) rs (unvisited d start) in
+      AllVisited (d .size .w) (d .size .h) (now .1) → now .0 ≡ pictureOf field g (d .size) (d .qps) (d .t8s) (d .offsets) start
+  visited-from-grids field g k start rs all = same-as-whole start rs all ∙ derived-picture field g (d .size) (d .t8s) (d .qps) (d .strengths) (d .offsets) start k
 
   -- the two say all: any visit of which they hold gives these answers and these states
   pub one-behaviour : {A : Type 0} (number : A → ℕ) (other : Call A Planes) → Demand3 (d .size .w) (d .size .h) (stepOf (heldOf d)) (earlyOf d) number other

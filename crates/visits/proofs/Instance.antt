@@ -16,15 +16,16 @@ use Rattle.edges.proofs.Pictures.{macroblock-sized}
 use Rattle.visits.specs.Instance.{AsksPlace, Commutes, Passes}
 use Rattle.visits.specs.Beyond.{Bits}
 use Rattle.sizes.specs.Sizes.{outsideOf}
+use Rattle.sizes.specs.declared.Part.the-variants.{Frame}
 use Rattle.pictures.specs.Checks.{Lent, heldOf, badPlanes, badLent, badFlag, badQp, badStrength, someBad, someBadFlag}
-use Rattle.visits.specs.Checks.{badMark, badMarks, badQps, visitChecks, earlyOf, Sound, Fit}
+use Rattle.visits.specs.Checks.{badMark, badMarks, badQps, visitChecks, earlyIn, earlyOf, Sound, Fit}
 use Rattle.laws.proofs.Bools.{and-false}
 use Rattle.laws.proofs.Refusal.{none-applies}
 use Rattle.visits.proofs.VisitFits.{checked-visit-fits}
 
 pub asks-place : (d : Lent) → AsksPlace (d .size .w) (d .size .h) (earlyOf d)
-unfolding earlyOf
-asks-place d s r e = let g = checked-visit-fits d (length (s .0 .luma)) (length (s .0 .u)) (length (s .0 .v)) (s .1) r e in (g .column, g .row)
+unfolding earlyIn
+asks-place d s r e = let g = checked-visit-fits Frame d (length (s .0 .luma)) (length (s .0 .u)) (length (s .0 .v)) (s .1) r e in (g .column, g .row)
 
 pub commutes : (d : Lent) → 0 < d .size .w → Commutes (d .size .w) (stepOf (heldOf d))
 commutes d wide = step-commute (heldOf d) wide
@@ -64,10 +65,10 @@ qps-fine qps k w x y =
     rw (k i, fine-where badQp qps k (ltb 0 x) (i - 1), fine-where badQp qps k (ltb 0 y) (i - w))
 
 pub passes-valid : (d : Lent) → Sound d → Passes (d .size .w) (d .size .h) (earlyOf d) (Fit d)
-unfolding earlyOf
+unfolding earlyIn
 passes-valid d v s f l b x y hx hy =
-    none-applies (visitChecks d (length (s .0 .luma)) (length (s .0 .u)) (length (s .0 .v)) (s .1) (x, y))
-    (v .sides, (place, (planes, (grids, (v .range, (flags, (qps-fine (d .qps) (v .qp) (d .size .w) x y, (none-bad badStrength (d .strengths) (v .strength) _ _, tt))))))))
+    none-applies (visitChecks Frame d (length (s .0 .luma)) (length (s .0 .u)) (length (s .0 .v)) (s .1) (x, y))
+    (v .sides, (place, (refl, (planes, (grids, (v .range, (flags, (qps-fine (d .qps) (v .qp) (d .size .w) x y, (none-bad badStrength (d .strengths) (v .strength) _ _, tt)))))))))
   where
     place : outsideOf (d .size) x y ≡ false
     place = rw (lt-leb (d .size .w) x hx, lt-leb (d .size .h) y hy)

@@ -15,7 +15,7 @@ use Rattle.sizes.specs.Sizes.{outsideOf}
 use Rattle.pictures.specs.Checks.{Lent, badPlanes, badLent, Reads}
 use Rattle.visits.specs.Visit.{At, State, marked, waiting, orElse, answer, visit}
 use Rattle.visits.specs.Beyond.{Bits}
-use Rattle.visits.specs.Checks.{earlyOf, visitReads, Sound, Fit}
+use Rattle.visits.specs.Checks.{earlyIn, earlyOf, visitReads, Sound, Fit}
 use Rattle.visits.specs.Late.{SameShape}
 use Rattle.visits.specs.Promise.{visitOf}
 use Rattle.visits.proofs.Instance.{asks-place, passes-valid}
@@ -36,7 +36,7 @@ no-value false false false later h = refl
 -- ---- with valid data, outside the picture and inside
 module _ (d : Lent) (v : Sound d) (s : State Planes) (r : At) where
   outside-2 : outsideOf (d .size) (r .0) (r .1) ≡ true → earlyOf d s r ≡ 2
-  unfolding earlyOf
+  unfolding earlyIn
   outside-2 o = rw (v .sides, o)
 
   module _ (f : Fit d (s .0)) (full : length (s .1) ≡ d .size .w * d .size .h) (bits : Bits (s .1)) where
@@ -70,11 +70,11 @@ module _ (d : Lent) (v : Sound d) (ss qs ts : List ℕ) (shape : SameShape d (re
   reads = visitReads (d .size .w) ss qs ts ms r
 
   outside-too : outsideOf (d .size) (r .0) (r .1) ≡ true → earlyOf e (q, ms) r ≡ 2
-  unfolding earlyOf
+  unfolding earlyIn
   outside-too o = rw (v .sides, o)
 
   inside-too : outsideOf (d .size) (r .0) (r .1) ≡ false → earlyOf e (q, ms) r ≡ byValue (reads .flags) (reads .qps) (reads .strengths)
-  unfolding earlyOf
+  unfolding earlyIn
   inside-too o = rw (v .sides, o, planes, grids, v .range)
     where
       planes : badPlanes (d .size .w * d .size .h) (length (q .luma)) (length (q .u)) (length (q .v)) ≡ false

@@ -11,6 +11,7 @@ use Rattle.laws.specs.Raster.{Marked}
 use Rattle.edges.specs.Picture.{Planes}
 use Rattle.sizes.specs.declared.Size.{Size}
 use Rattle.pictures.specs.Checks.{Lent}
+use Rattle.sizes.specs.declared.Part.the-variants.{Frame}
 use Rattle.visits.specs.Visit.{At, State}
 use Rattle.visits.specs.Checks.{Fit}
 use Rattle.visits.specs.Late.{SameAt, SamplesOf, ofRequest, CallsWith, last, call, Lends, LateCalls, Writes, ArrivalCalls}
@@ -40,7 +41,7 @@ module _ (d : Lent) (start : Planes) (when : ℕ → ℕ) where
         split i h u (yes q) = inl q
         split i h u (no q) = inr (omega arith, u)
 
-    module _ {t : State Planes} (o : VisitOutcome e (p, s .1) r n t) where
+    module _ {t : State Planes} (o : VisitOutcome Frame e (p, s .1) r n t) where
       number : n ≡ visitOf e (p, s .1) r .0
       number = outcome-is-visit o .0
 

@@ -12,10 +12,11 @@ use Rattle.laws.proofs.Bools.{and-parts, guarded}
 use Rattle.laws.proofs.Grid.{row-pos}
 use Rattle.laws.proofs.Some.{some-same}
 use Rattle.edges.specs.Picture.{Planes}
+use Rattle.sizes.specs.declared.Part.the-variants.{Frame}
 use Rattle.sizes.specs.Sizes.{outsideOf}
 use Rattle.pictures.specs.Checks.{Lent, badQp, badFlag, badStrength, someBad, someBadFlag, someBadStrength, pictureChecks, gridChecks, entryChecks}
 use Rattle.visits.specs.Visit.{At, State, waiting, orElse, answer, visit}
-use Rattle.visits.specs.Checks.{earlyOf, badMark, badMarks, badQps}
+use Rattle.visits.specs.Checks.{earlyIn, earlyOf, badMark, badMarks, badQps}
 use Rattle.visits.specs.Late.{SameEntry, ofRequest, SameLent, SameMarks, SameSight}
 use Rattle.visits.specs.Promise.{visitOf}
 use Rattle.visits.proofs.LateStep.{regridded}
@@ -93,7 +94,7 @@ module _ (d : Lent) (ss qs ts : List ℕ) (s t : State Planes) (r : At) (a : Sam
   e = regridded d ss qs ts
 
   early-same : earlyOf d s r ≡ earlyOf e t r
-  unfolding earlyOf
+  unfolding earlyIn
   early-same =
       let flags = flags-same d ss qs ts r (a .lent) in
       let marks = marks-same (d .size .w) r (s .1) (t .1) (a .marks) in
@@ -101,7 +102,7 @@ module _ (d : Lent) (ss qs ts : List ℕ) (s t : State Planes) (r : At) (a : Sam
       let strengths = strengths-same d ss qs ts r (a .lent) in
       let shape = a .lent .shape in
       λ i.
-      refusal (pictureChecks (d .size) (outsideOf (d .size) (r .0) (r .1)) (a .planes .luma .len i) (a .planes .u .len i) (a .planes .v .len i)
+      refusal (pictureChecks Frame (d .size) (outsideOf (d .size) (r .0) (r .1)) (a .planes .luma .len i) (a .planes .u .len i) (a .planes .v .len i)
       ++ gridChecks (d .size .w * d .size .h) (shape .strengths i) (shape .qps i) (shape .t8s i) (not (eqb (a .marks .len i) (d .size .w * d .size .h))) (d .offsets)
       ++ entryChecks (record { flags = flags i || marks i; qps = qps i; strengths = strengths i }))
 

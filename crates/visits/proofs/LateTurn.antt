@@ -14,6 +14,7 @@ use Rattle.edges.specs.Picture.{Planes, stepOf}
 use Rattle.edges.specs.declared.Offsets.{Offsets}
 use Rattle.sizes.specs.declared.Size.{Size}
 use Rattle.pictures.specs.Checks.{Lent, lent, heldOf}
+use Rattle.sizes.specs.declared.Part.the-variants.{Frame}
 use Rattle.visits.specs.Visit.{At, State}
 use Rattle.visits.specs.Beyond.{Bits}
 use Rattle.visits.specs.Checks.{Sound, Fit}
@@ -133,7 +134,7 @@ module _ (d : Lent) (sound : Sound d) (start : Planes) (ss qs ts : List ℕ) (s 
 
 -- ---- one call, known by its contract
 pub turn : (d : Lent) → Sound d → (start : Planes) {s t u : State Planes} {r : At} {n : ℕ} {e : Lent} {p : Planes}
-    → Alongside d start s t → Lends d start t r n e p → VisitOutcome e (p, t .1) r n u
+    → Alongside d start s t → Lends d start t r n e p → VisitOutcome Frame e (p, t .1) r n u
     → (n ≡ visitOf d s r .0) × Alongside d start (visitOf d s r .1) u
 turn d sound start {s} {t} {u} {r} {n} {e} {p} a c o =
     let k = outcome-is-visit o in

@@ -3,7 +3,7 @@
 use mathlib.Core.Path.{_≡_, sym, subst}
 use mathlib.Core.Logic.{_⊎_, inl, inr}
 use mathlib.Core.List.{List, [], _∷_}
-use Prim.Native.Nat.{ℕ, _-_, _*_, _/_, _%_, _<_}
+use Prim.Native.Nat.{ℕ, _*_, _/_, _%_, _<_}
 use native.Mathlib.Decide.{ℕ-discrete}
 use native.Mathlib.Omega.{arith}
 use lib.ListN.{length}
@@ -13,8 +13,9 @@ use Rattle.laws.proofs.Grid.{index-lt}
 use Rattle.laws.proofs.Raster.{mark-same}
 use Rattle.edges.specs.Picture.{Planes}
 use Rattle.pictures.specs.Checks.{Lent}
+use Rattle.sizes.specs.declared.Part.the-variants.{Frame}
 use Rattle.visits.specs.Visit.{At, State, run}
-use Rattle.visits.specs.Checks.{earlyOf}
+use Rattle.visits.specs.Checks.{earlyIn, earlyOf}
 use Rattle.visits.specs.Late.{SameAt, SamplesOf, NearFoot, ofRequest}
 use Rattle.visits.specs.Promise.{visitOf}
 use Rattle.visits.proofs.Late.{refused-here, done-here, rest-stays, same-itself}
@@ -29,8 +30,8 @@ module _ (d : Lent) (s : State Planes) (r : At) (z : visitOf d s r .0 ≡ 0) whe
   i = ofRequest d r
 
   full-here : earlyOf d s r ≡ 0 → length (s .1) ≡ d .size .w * d .size .h
-  unfolding earlyOf
-  full-here e = checked-visit-fits d (length (s .0 .luma)) (length (s .0 .u)) (length (s .0 .v)) (s .1) r e .marks
+  unfolding earlyIn
+  full-here e = checked-visit-fits Frame d (length (s .0 .luma)) (length (s .0 .u)) (length (s .0 .v)) (s .1) r e .marks
 
   pub ready-here : Ready (Dep (d .size .w)) (s .1) i
   ready-here = let k = done-here d s r z in free→ready (d .size .w) (d .size .h) (s .1) (r .0) (r .1) (k .column) (k .row) (k .ready)

@@ -24,7 +24,7 @@ use Rattle.edges.specs.Picture.{Planes, lumaOf, flagAt, macroblockAt, stepOf}
 use Rattle.pictures.specs.Checks.{Lent, lent, heldOf, someBad}
 use Rattle.visits.specs.Visit.{At, State, waiting, answer, visit}
 use Rattle.visits.specs.Cases.{columnLent, columnPlanes}
-use Rattle.visits.specs.Checks.{earlyOf, badMarks, badQps, Sound, Fit}
+use Rattle.visits.specs.Checks.{earlyIn, badMarks, badQps, Sound, Fit}
 use Rattle.visits.specs.Fault.{band}
 use Rattle.visits.specs.Late.{SameAt, NearFoot, SameShape, SameEntry, SameData, SameMarks, ofRequest}
 use Rattle.visits.specs.Promise.{visitOf}
@@ -77,5 +77,5 @@ upper-qp-needed near =
 
 -- the upper macroblock has not arrived: with any QP the visit waits for it, with what is no QP it is refused
 pub no-qp-yet : (visitOf (withUpper 40) (columnPlanes, 0 ∷ 0 ∷ []) (0, 1) .0 ≡ 14) × (visitOf (withUpper 52) (columnPlanes, 0 ∷ 0 ∷ []) (0, 1) .0 ≡ 8)
-unfolding visit answer waiting earlyOf badMarks badQps someBad some band
+unfolding visit answer waiting earlyIn badMarks badQps someBad some band
 no-qp-yet = (refl, refl)

@@ -1,4 +1,5 @@
 pub mod AnyOrder
+pub mod Before
 pub mod Beyond
 pub mod ByContract
 pub mod Calls

@@ -12,7 +12,9 @@ use Rattle.laws.proofs.Bools.{or-false, equal}
 use Rattle.laws.proofs.Grid.{index-lt, row-fits}
 use Rattle.laws.proofs.Refusal.{passes}
 use Rattle.edges.specs.Inner.{Room}
-use Rattle.sizes.specs.Sizes.{outsideOf}
+use Rattle.sizes.specs.Sizes.{outsideOf, frameOfPart}
+use Rattle.sizes.specs.declared.Part.{Part}
+use Rattle.sizes.proofs.Sized.{frame-of-part-le}
 use Rattle.pictures.specs.Checks.{Lent}
 use Rattle.pictures.proofs.Fitting.{Fitting, fitting}
 use Rattle.visits.specs.Visit.{At}
@@ -20,29 +22,29 @@ use Rattle.visits.specs.Checks.{visitChecks}
 use Rattle.visits.specs.Inner.{InPicture}
 
 -- ly, lu, lv, lm are the lengths of planes and marks
-pub record VisitFits (d : Lent) (ly lu lv lm : ℕ) (r : At) : Type 0 where
-  pub fit : Fitting d ly lu lv
+pub record VisitFits (part : Part) (d : Lent) (ly lu lv lm : ℕ) (r : At) : Type 0 where
+  pub fit : Fitting part d ly lu lv
   pub column : r .0 < d .size .w
   pub row : r .1 < d .size .h
   pub marks : lm ≡ d .size .w * d .size .h
 
-module _ (d : Lent) (ly lu lv : ℕ) where
-  -- checks 1 to 4
-  pub visit-fits : (lm : ℕ) (r : At) → Fitting d ly lu lv → outsideOf (d .size) (r .0) (r .1) ≡ false → not (eqb lm (d .size .w * d .size .h)) ≡ false
-      → VisitFits d ly lu lv lm r
+module _ (part : Part) (d : Lent) (ly lu lv : ℕ) where
+  -- checks 1, 2, 19, 3 and 4
+  pub visit-fits : (lm : ℕ) (r : At) → Fitting part d ly lu lv → outsideOf (d .size) (r .0) (r .1) ≡ false → not (eqb lm (d .size .w * d .size .h)) ≡ false
+      → VisitFits part d ly lu lv lm r
   visit-fits lm r f two four =
       let place = or-false (leb (d .size .w) (r .0)) (leb (d .size .h) (r .1)) two in
       record { fit = f; column = leb-false (d .size .w) (r .0) (place .0); row = leb-false (d .size .h) (r .1) (place .1); marks = equal _ _ four }
 
-  pub checked-visit-fits : (ms : List ℕ) (r : At) → refusal (visitChecks d ly lu lv ms r) ≡ 0 → VisitFits d ly lu lv (length ms) r
+  pub checked-visit-fits : (ms : List ℕ) (r : At) → refusal (visitChecks part d ly lu lv ms r) ≡ 0 → VisitFits part d ly lu lv (length ms) r
   checked-visit-fits ms r e =
       let four = or-false _ _ (passes 4 cs tt e) in
-      visit-fits (length ms) r (fitting d ly lu lv (passes 1 cs tt e) (passes 3 cs tt e) (four .0)) (passes 2 cs tt e) (four .1)
+      visit-fits (length ms) r (fitting part d ly lu lv (passes 1 cs tt e) (passes 19 cs tt e) (passes 3 cs tt e) (four .0)) (passes 2 cs tt e) (four .1)
     where
       cs : List (ℕ × Bool)
-      cs = visitChecks d ly lu lv ms r
+      cs = visitChecks part d ly lu lv ms r
 
-  module _ (lm : ℕ) (r : At) (g : VisitFits d ly lu lv lm r) where
+  module _ (lm : ℕ) (r : At) (g : VisitFits part d ly lu lv lm r) where
     pub index : r .1 * d .size .w + r .0 < d .size .w * d .size .h
     index = index-lt (d .size .w) (d .size .h) (r .0) (r .1) (g .column) (g .row)
 
@@ -53,14 +55,15 @@ module _ (d : Lent) (ly lu lv : ℕ) where
     in-largest = record { column = g .column; index = omega (arith, index, g .fit .sides .most) }
 
     -- what the filter asks
-    pub room : Room (r .1 * d .size .w + d .size .w) ly lu lv (length (d .qps)) (length (d .t8s)) (length (d .strengths))
+    pub room : Room (frameOfPart part (r .1 * d .size .w + d .size .w)) (r .1 * d .size .w + d .size .w) ly lu lv (length (d .qps)) (length (d .t8s)) (length (d .strengths))
     room =
         let f = row-fits (r .1) (d .size .w) (d .size .h) (g .row) in
+        let m = frame-of-part-le part f in
         let k = g .fit in
         record {
-          luma = omega (arith, k .luma);
-          u = omega (arith, k .u);
-          v = omega (arith, k .v);
+          luma = omega (arith, k .luma, m);
+          u = omega (arith, k .u, m);
+          v = omega (arith, k .v, m);
           qps = omega (arith, k .qps);
           t8s = λ h. omega (arith, k .t8s h);
           strengths = omega (arith, k .strengths);

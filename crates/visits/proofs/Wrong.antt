@@ -25,7 +25,8 @@ use Rattle.visits.specs.Visit.{At, State, fresh, answer, itself}
 use Rattle.visits.specs.AnyOrder.{Demand3}
 use Rattle.visits.specs.Old.{oldVisit}
 use Rattle.pictures.specs.Checks.{Lent, lent, heldOf, someBad}
-use Rattle.visits.specs.Checks.{badMarks, badQps, earlyOf, Sound, Fit}
+use Rattle.sizes.specs.declared.Part.the-variants.{Frame}
+use Rattle.visits.specs.Checks.{badMarks, badQps, earlyIn, earlyOf, Sound, Fit}
 use Rattle.visits.specs.Promise.{VisitOutcome}
 use Rattle.visits.specs.Fault.{band, outerStrengths, faultLent}
 use Rattle.visits.proofs.Marks.{fresh-bits}
@@ -80,17 +81,17 @@ turns-away =
     (pair-clear (pairStep 0 pairPlanes) (fit-kept pairLent 0 pairPlanes pair-fit) 1 0 1 tt (omega arith))
 
 -- asks 14 before 13: no answer and no state after it is allowed
-pub ready-first : (t : State Planes) → VisitOutcome pairLent (pairPlanes, 0 ∷ 1 ∷ []) (1, 0) (readyFirst 2 pairStep (earlyOf pairLent) (pairPlanes, 0 ∷ 1 ∷ []) (1, 0)) t → ⊥
+pub ready-first : (t : State Planes) → VisitOutcome Frame pairLent (pairPlanes, 0 ∷ 1 ∷ []) (1, 0) (readyFirst 2 pairStep (earlyOf pairLent) (pairPlanes, 0 ∷ 1 ∷ []) (1, 0)) t → ⊥
 ready-first = refused.ready-first pairStep (earlyOf pairLent) pairPlanes (pair-clear pairPlanes pair-fit 0 1 1 tt (omega arith))
 
 -- refuses a marked macroblock with 14: 13 comes first
-pub marked-as-waiting : (t : State Planes) → VisitOutcome pairLent (pairPlanes, 1 ∷ 0 ∷ []) (0, 0) 14 t → ⊥
+pub marked-as-waiting : (t : State Planes) → VisitOutcome Frame pairLent (pairPlanes, 1 ∷ 0 ∷ []) (0, 0) 14 t → ⊥
 marked-as-waiting = refused.marked-as-waiting pairStep (earlyOf pairLent) pairPlanes (pair-clear pairPlanes pair-fit 1 0 0 tt (omega arith))
 
 -- lets QP 52 to the left pass check 8
 pub left-qp-52 : (t : State Planes)
-    → VisitOutcome (lent (pairLent .size) (pairLent .offsets) (pairLent .strengths) (52 ∷ 40 ∷ []) []) (pairPlanes, 1 ∷ 0 ∷ []) (1, 0) 0 t → ⊥
-unfolding answer earlyOf badMarks badQps someBad some band
+    → VisitOutcome Frame (lent (pairLent .size) (pairLent .offsets) (pairLent .strengths) (52 ∷ 40 ∷ []) []) (pairPlanes, 1 ∷ 0 ∷ []) (1, 0) 0 t → ⊥
+unfolding answer earlyIn badMarks badQps someBad some band
 left-qp-52 t o = let k : _≡_ {A = ℕ} 0 8 = o .number in omega arith
 
 -- sets its mark though it refuses

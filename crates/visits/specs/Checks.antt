@@ -8,8 +8,11 @@ use mathlib.Core.List.{List}
 use lib.Dec.{eqb, ltb}
 use lib.ListN.{length, getD}
 use Rattle.laws.specs.Refusal.{refusal}
+use Rattle.edges.specs.Fields.{Lengths}
 use Rattle.edges.specs.Picture.{Planes}
 use Rattle.sizes.specs.Sizes.{badSize, outsideOf}
+use Rattle.sizes.specs.declared.Part.{Part}
+use Rattle.sizes.specs.declared.Part.the-variants.{Frame}
 use Rattle.pictures.specs.Checks.{Lent, badLent, badOffsets, badFlag, badQp, badStrength, someBadFlag, someBadStrength, Reads, filterChecks}
 use Rattle.visits.specs.Visit.{At, State}
 
@@ -41,14 +44,19 @@ visitReads w strengths qps t8s ms r =
     let i = r .1 * w + r .0 in
     record { flags = someBadFlag i (i + 1) t8s || badMarks ms w (r .0) (r .1); qps = badQps qps w (r .0) (r .1); strengths = someBadStrength i (i + 1) strengths }
 
--- a visit is lent marks beside, one for each macroblock; luma, u, v are the lengths of the planes
-abbrev pub visitChecks : Lent → ℕ → ℕ → ℕ → List ℕ → At → List (ℕ × Bool)
-visitChecks d luma u v ms r =
-    filterChecks d luma u v (outsideOf (d .size) (r .0) (r .1)) (not (eqb (length ms) (d .size .w * d .size .h)))
+-- a visit is lent marks beside, one for each macroblock of the picture; luma, u, v are the lengths of the
+-- planes
+abbrev pub visitChecks : Part → Lent → ℕ → ℕ → ℕ → List ℕ → At → List (ℕ × Bool)
+visitChecks part d luma u v ms r =
+    filterChecks part d luma u v (outsideOf (d .size) (r .0) (r .1)) (not (eqb (length ms) (d .size .w * d .size .h)))
     (visitReads (d .size .w) (d .strengths) (d .qps) (d .t8s) ms r)
 
-unfoldable pub earlyOf : Lent → State Planes → At → ℕ
-earlyOf d s r = refusal (visitChecks d (length (s .0 .luma)) (length (s .0 .u)) (length (s .0 .v)) (s .1) r)
+-- of a part of the planes; of a frame
+unfoldable pub earlyIn : Part → Lent → State Planes → At → ℕ
+earlyIn part d s r = refusal (visitChecks part d (length (s .0 .luma)) (length (s .0 .u)) (length (s .0 .v)) (s .1) r)
+
+abbrev pub earlyOf : Lent → State Planes → At → ℕ
+earlyOf d = earlyIn Frame d
 
 -- ---- "the same valid size, buffer lengths, strengths, QPs, 8x8 flags and offsets": valid wherever a visit
 -- may read
@@ -60,7 +68,6 @@ pub record Sound (d : Lent) : Type 0 where
   pub qp : (i : ℕ) → badQp (getD (d .qps) i 0) ≡ false
   pub strength : (i : ℕ) → badStrength (getD (d .strengths) i 0) ≡ false
 
-pub record Fit (d : Lent) (p : Planes) : Type 0 where
-  pub luma : length (p .luma) ≡ 256 * (d .size .w * d .size .h)
-  pub u : length (p .u) ≡ 64 * (d .size .w * d .size .h)
-  pub v : length (p .v) ≡ 64 * (d .size .w * d .size .h)
+-- the planes of a frame
+abbrev pub Fit : Lent → Planes → Type 0
+Fit d p = Lengths (d .size .w * d .size .h) p

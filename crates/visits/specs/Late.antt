@@ -10,6 +10,7 @@ use Rattle.laws.specs.Local.{Agree}
 use Rattle.laws.specs.Places.{Plane}
 use Rattle.laws.specs.Raster.{Marked}
 use Rattle.edges.specs.Picture.{Planes}
+use Rattle.sizes.specs.declared.Part.the-variants.{Frame}
 use Rattle.pictures.specs.Checks.{Lent}
 use Rattle.visits.specs.Visit.{At, State, run, answers}
 use Rattle.visits.specs.Promise.{visitOf, unvisited, VisitOutcome}
@@ -117,7 +118,7 @@ pub record Lends (d : Lent) (start : Planes) (s : State Planes) (r : At) (n : �
 pub data CallsWith (May : ℕ → State Planes → At → ℕ → Lent → Planes → Type 0) : ℕ → State Planes → List At → List ℕ → State Planes → Type 0 where
   last : {k : ℕ} {s : State Planes} → CallsWith May k s [] [] s
   call : {k : ℕ} {s t u : State Planes} {r : At} {n : ℕ} {e : Lent} {p : Planes} {rs : List At} {said : List ℕ}
-      → May k s r n e p → VisitOutcome e (p, s .1) r n t → CallsWith May (suc k) t rs said u → CallsWith May k s (r ∷ rs) (n ∷ said) u
+      → May k s r n e p → VisitOutcome Frame e (p, s .1) r n t → CallsWith May (suc k) t rs said u → CallsWith May k s (r ∷ rs) (n ∷ said) u
 
 abbrev pub LateCalls : Lent → Planes → State Planes → List At → List ℕ → State Planes → Type 0
 LateCalls d start = CallsWith (λ k. Lends d start) 0

@@ -13,6 +13,7 @@ use pictures::checks::any_bad_flag;
 use pictures::checks::any_bad_strength;
 use pictures::checks::refuse_grids;
 use pictures::checks::refuse_picture;
+use sizes::Part;
 use sizes::Size;
 
 // Where there is a neighbour d places before i, its entry is above `top`.
@@ -81,6 +82,7 @@ fn refuse_visit_entries(
 
 // All of them; luma, u, v are the lengths of the planes.
 pub fn refuse_early(
+    part: Part,
     size: Size,
     x: usize,
     y: usize,
@@ -93,11 +95,11 @@ pub fn refuse_early(
     t8s: &[u8],
     marks: &[u8],
 ) -> u32
-    ensures { λ r. ⌜ r ≡ refusal (visitChecks (lent size o (now (strengths .entry)) (now (qps .entry)) (now (t8s .entry))) luma u v (now (marks .entry)) (x, y)) ⌝ }
+    ensures { λ r. ⌜ r ≡ refusal (visitChecks part (lent size o (now (strengths .entry)) (now (qps .entry)) (now (t8s .entry))) luma u v (now (marks .entry)) (x, y)) ⌝ }
 {
     let w = size.w;
     let h = size.h;
-    let k = refuse_picture(size, (w <= x) | (h <= y), luma, u, v);
+    let k = refuse_picture(part, size, (w <= x) | (h <= y), luma, u, v);
     if k != 0 {
         return k;
     }

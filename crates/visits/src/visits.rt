@@ -1,4 +1,5 @@
-// A visit, and visits replayed. Neither asks anything of its caller; a refusal changes no byte.
+// A visit of a picture, which is a frame or a field of one, and visits replayed: `size` and marks are the
+// picture's, the planes are the frame's. Neither asks anything of its caller; a refusal changes no byte.
 ghost use mathlib.Core.Path.{_≡_};
 ghost use mathlib.Core.Bool.{true, not, _&&_};
 ghost use Prim.Native.Nat.{_-_, _<_, _≤_};
@@ -13,6 +14,7 @@ use crate::checks::refuse_early;
 use edges::Offsets;
 use edges::picture::macroblock;
 use lines::tables::all;
+use sizes::Part;
 use sizes::Size;
 
 // Where there is a neighbour d places before i, it is unmarked.
@@ -41,6 +43,7 @@ fn waits(marks: &[u8], w: usize, x: usize, y: usize) -> bool
 // Macroblock (x, y) filtered and marked, or a refusal.
 pub fn visit(
     size: Size,
+    part: Part,
     x: usize,
     y: usize,
     o: Offsets,
@@ -52,9 +55,10 @@ pub fn visit(
     t8s: &[u8],
     marks: &mut [u8],
 ) -> u32
-    ensures { λ r. ⌜ VisitOutcome (lent size o (now (strengths .entry)) (now (qps .entry)) (now (t8s .entry))) (planes (now (luma .entry)) (now (u .entry)) (now (v .entry)), now (marks .entry)) (x, y) r (planes (now (luma .exit)) (now (u .exit)) (now (v .exit)), now (marks .exit)) ⌝ }
+    ensures { λ r. ⌜ VisitOutcome part (lent size o (now (strengths .entry)) (now (qps .entry)) (now (t8s .entry))) (planes (now (luma .entry)) (now (u .entry)) (now (v .entry)), now (marks .entry)) (x, y) r (planes (now (luma .exit)) (now (u .exit)) (now (v .exit)), now (marks .exit)) ⌝ }
 {
     let n = refuse_early(
+        part,
         size,
         x,
         y,
@@ -79,7 +83,7 @@ pub fn visit(
         return 14;
     }
     let t = all();
-    macroblock(luma, u, v, &t, w, x, y, qps, t8s, strengths, o);
+    macroblock(luma, u, v, &t, part, w, x, y, qps, t8s, strengths, o);
     marks[i] = 1;
     0
 }
@@ -87,6 +91,7 @@ pub fn visit(
 // Visits of (xs[k], ys[k]) for each k in turn, each answer in answers[k].
 fn each(
     size: Size,
+    part: Part,
     o: Offsets,
     xs: &[usize],
     ys: &[usize],
@@ -100,12 +105,13 @@ fn each(
     answers: &mut [u32],
 )
     requires { ⌜ (length (now ys) ≡ length (now xs)) × (length (now answers) ≡ length (now xs)) ⌝ }
-    ensures { λ _. ⌜ Replayed (lent size o (now (strengths .entry)) (now (qps .entry)) (now (t8s .entry))) (now (xs .entry)) (now (ys .entry)) (planes (now (luma .entry)) (now (u .entry)) (now (v .entry)), now (marks .entry)) (planes (now (luma .exit)) (now (u .exit)) (now (v .exit)), now (marks .exit)) (now (answers .exit)) ⌝ }
+    ensures { λ _. ⌜ Replayed part (lent size o (now (strengths .entry)) (now (qps .entry)) (now (t8s .entry))) (now (xs .entry)) (now (ys .entry)) (planes (now (luma .entry)) (now (u .entry)) (now (v .entry)), now (marks .entry)) (planes (now (luma .exit)) (now (u .exit)) (now (v .exit)), now (marks .exit)) (now (answers .exit)) ⌝ }
 {
     let mut k: usize = 0;
     while k < xs.len() {
         let n = visit(
             size,
+            part,
             xs[k],
             ys[k],
             o,
@@ -125,6 +131,7 @@ fn each(
 // Requests as they arrived, replayed. Lists of different lengths are refused with 4.
 pub fn replay(
     size: Size,
+    part: Part,
     o: Offsets,
     xs: &[usize],
     ys: &[usize],
@@ -137,13 +144,14 @@ pub fn replay(
     marks: &mut [u8],
     answers: &mut [u32],
 ) -> u32
-    ensures { λ r. ⌜ ReplayOutcome (lent size o (now (strengths .entry)) (now (qps .entry)) (now (t8s .entry))) (now (xs .entry)) (now (ys .entry)) (planes (now (luma .entry)) (now (u .entry)) (now (v .entry)), now (marks .entry)) (now (answers .entry)) r (planes (now (luma .exit)) (now (u .exit)) (now (v .exit)), now (marks .exit)) (now (answers .exit)) ⌝ }
+    ensures { λ r. ⌜ ReplayOutcome part (lent size o (now (strengths .entry)) (now (qps .entry)) (now (t8s .entry))) (now (xs .entry)) (now (ys .entry)) (planes (now (luma .entry)) (now (u .entry)) (now (v .entry)), now (marks .entry)) (now (answers .entry)) r (planes (now (luma .exit)) (now (u .exit)) (now (v .exit)), now (marks .exit)) (now (answers .exit)) ⌝ }
 {
     if (ys.len() != xs.len()) | (answers.len() != xs.len()) {
         return 4;
     }
     each(
         size,
+        part,
         o,
         xs,
         ys,

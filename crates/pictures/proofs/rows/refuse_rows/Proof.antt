@@ -1,4 +1,4 @@
--- `refuse_rows`: the checks in their three parts, each made where none of those before it applies. Assumes
+-- `refuse_rows`: the checks in their three groups, each made where none of those before it applies. Assumes
 -- nothing.
 use borrow.Author.Needs.{needs}
 use mathlib.Core.Path.{_≡_, sym, _∙_}
@@ -18,9 +18,9 @@ use Rattle.pictures.proofs.RowCalls.{RowsFit, rows-fit, ends}
 use Rattle.pictures.proofs.rows.refuse_rows.Statement.{statement}
 use Rattle.pictures.proofs.rows.refuse_rows.Tie as tie
 
--- the three parts
+-- the three groups
 abbrev picture : tie.Start → List (ℕ × Bool)
-picture s = let a = s .args in pictureChecks (a .size) (badRange (a .size) (a .a) (a .b)) (a .luma) (a .u) (a .v)
+picture s = let a = s .args in pictureChecks (a .part) (a .size) (badRange (a .size) (a .a) (a .b)) (a .luma) (a .u) (a .v)
 
 abbrev grids : tie.Start → List (ℕ × Bool)
 grids s = let a = s .args in gridChecks (a .size .w * a .size .h) (length (a .strengths .now)) (length (a .qps .now)) (length (a .t8s .now)) false (a .o)
@@ -28,7 +28,7 @@ grids s = let a = s .args in gridChecks (a .size .w * a .size .h) (length (a .st
 abbrev entries : tie.Start → List (ℕ × Bool)
 entries s = let a = s .args in entryChecks (rowReads (a .size .w) (a .a) (a .b) (a .strengths .now) (a .qps .now) (a .t8s .now))
 
--- where the call goes on after the first part, and after the second
+-- where the call goes on after the first group, and after the second
 abbrev start : tie.Else1 → tie.Start
 start c = c .before .before .before .before .before
 
@@ -44,13 +44,13 @@ zero-2 c = sym (c .before .refuse-grids .ensures) ∙ c .if2 .left
 abbrev data-of : tie.Start → Lent
 data-of s = let a = s .args in lent (a .size) (a .o) (a .strengths .now) (a .qps .now) (a .t8s .now)
 
-ok : (c : tie.Else2) → let s = start (c .before .before) in let a = s .args in RowsFit (data-of s) (a .a) (a .b) (a .luma) (a .u) (a .v)
+ok : (c : tie.Else2) → let s = start (c .before .before) in let a = s .args in RowsFit (a .part) (data-of s) (a .a) (a .b) (a .luma) (a .u) (a .v)
 ok c =
     let s = start (c .before .before) in
     let a = s .args in
     let z = zero (c .before .before) in
-    rows-fit (data-of s) (a .a) (a .b) (a .luma) (a .u) (a .v)
-    (fitting (data-of s) (a .luma) (a .u) (a .v) (passes 1 (picture s) tt z) (passes 3 (picture s) tt z) (or-false _ _ (passes 4 (grids s) tt (zero-2 c)) .0))
+    rows-fit (a .part) (data-of s) (a .a) (a .b) (a .luma) (a .u) (a .v)
+    (fitting (a .part) (data-of s) (a .luma) (a .u) (a .v) (passes 1 (picture s) tt z) (passes 19 (picture s) tt z) (passes 3 (picture s) tt z) (or-false _ _ (passes 4 (grids s) tt (zero-2 c)) .0))
     (passes 2 (picture s) tt z)
 
 returns : tie.Need-returns
@@ -70,7 +70,7 @@ row-entries c κs =
     let a = s .args in
     let g = ok c in
     let f = g .fit in
-    let e = ends (data-of s) (a .a) (a .b) (a .luma) (a .u) (a .v) g in
+    let e = ends (a .part) (data-of s) (a .a) (a .b) (a .luma) (a .u) (a .v) g in
     ((g .order, omega (arith, f .sides .most)), (omega (arith, f .strengths), (omega (arith, f .qps), λ h. omega (arith, f .t8s h))))
 
 returns-3 : tie.Need-returns-3

@@ -32,7 +32,7 @@ returns : tie.Need-returns
 returns c =
     let s = c .before .before .before .before .before in
     let a = s .args in
-    refused (a .size) (a .x) (a .y) (a .t8) (given s) _ (a .strengths .now) _ (c .before .refuse-derive .ensures) (c .if1 .taken)
+    refused (a .size) (a .field) (a .x) (a .y) (a .t8) (given s) _ (a .strengths .now) _ (c .before .refuse-derive .ensures) (c .if1 .taken)
 
 untrue : tie.Need-untrue-known-requires
 untrue c κs =
@@ -45,13 +45,13 @@ returns-2 c =
     let e = c .before .before in
     let s = start e in
     let a = s .args in
-    untrue-12 (a .size) (a .x) (a .y) (a .t8) (given s) _ (a .strengths .now) (zero e) (sym (c .before .untrue-known .ensures) ∙ c .if2 .taken)
+    untrue-12 (a .size) (a .field) (a .x) (a .y) (a .t8) (given s) _ (a .strengths .now) (zero e) (sym (c .before .untrue-known .ensures) ∙ c .if2 .taken)
 
 inter : tie.Need-first-inter-requires
 inter c κs = ok (c .before .before) .inter
 
 derives : tie.Need-derive-requires
-derives c κs = let e = ok (c .before .before .before .before .before) in (e .grids, (e .nnz, (e .place, e .room)))
+derives c κs = let e = ok (c .before .before .before .before .before .before) in (e .grids, (e .nnz, (e .place, e .room)))
 
 -- the kind that is handed on is true
 true-kind : (c : tie.After-kind-known) → let s = start (c .before .before .before .before) in let a = s .args in isKind (given s) (a .size .w) (a .x) (a .y) (c .kind-known .result) ≡ true
@@ -65,13 +65,15 @@ true-kind c =
 
 returns-3 : tie.Need-returns-3
 returns-3 c =
-    let k = c .before .before .before .before in
+    let m = c .before .before .before .before in
+    let k = m .before in
     let t = k .before .before in
     let e = t .before .before in
     let s = start e in
     let a = s .args in
-    done (a .size) (a .x) (a .y) (a .t8) (given s) _ (a .strengths .now) (k .kind-known .result) _ (zero e) (sym (t .before .untrue-known .ensures) ∙ t .if2 .left) (true-kind k) (c .before .before .derive .ensures)
+    done (a .size) (a .field) (a .x) (a .y) (a .t8) (given s) _ (a .strengths .now) (k .kind-known .result) _ (zero e) (sym (t .before .untrue-known .ensures) ∙ t .if2 .left) (true-kind k)
+    (rw (m .mode-of .ensures) at (c .before .before .derive .ensures))
 
 pub derive-known-spec : {M : Type 1} → statement M
 derive-known-spec =
-    tie.close (tie.spec (λ c κs. search needs) returns untrue returns-2 inter (λ c κs. search needs) derives (λ c. search needs) returns-3)
+    tie.close (tie.spec (λ c κs. search needs) returns untrue returns-2 inter (λ c κs. search needs) (λ c κs. search needs) derives (λ c. search needs) returns-3)

@@ -1,4 +1,4 @@
--- `refuse_early`: the checks in their three parts, each made where none of those before it applies. Assumes
+-- `refuse_early`: the checks in their three groups, each made where none of those before it applies. Assumes
 -- nothing.
 use borrow.Author.Needs.{needs}
 use mathlib.Core.Path.{_≡_, sym, _∙_}
@@ -20,9 +20,9 @@ use Rattle.visits.proofs.VisitFits.{VisitFits, visit-fits, index, in-pi
 use Rattle.visits.proofs.checks.refuse_early.Statement.{statement}
 use Rattle.visits.proofs.checks.refuse_early.Tie as tie
 
--- the three parts
+-- the three groups
 abbrev picture : tie.Start → List (ℕ × Bool)
-picture s = let a = s .args in pictureChecks (a .size) (outsideOf (a .size) (a .x) (a .y)) (a .luma) (a .u) (a .v)
+picture s = let a = s .args in pictureChecks (a .part) (a .size) (outsideOf (a .size) (a .x) (a .y)) (a .luma) (a .u) (a .v)
 
 abbrev grids : tie.Start → List (ℕ × Bool)
 grids s =
@@ -33,7 +33,7 @@ grids s =
 abbrev entries : tie.Start → List (ℕ × Bool)
 entries s = let a = s .args in entryChecks (visitReads (a .size .w) (a .strengths .now) (a .qps .now) (a .t8s .now) (a .marks .now) (a .x, a .y))
 
--- where the call goes on after the first part, and after the second
+-- where the call goes on after the first group, and after the second
 abbrev start : tie.Else1 → tie.Start
 start c = c .before .before .before .before .before .before
 
@@ -49,14 +49,14 @@ zero-2 c = sym (c .before .refuse-grids .ensures) ∙ c .if2 .left
 abbrev data-of : tie.Start → Lent
 data-of s = let a = s .args in lent (a .size) (a .o) (a .strengths .now) (a .qps .now) (a .t8s .now)
 
-ok : (c : tie.Else2) → let s = start (c .before .before) in let a = s .args in VisitFits (data-of s) (a .luma) (a .u) (a .v) (length (a .marks .now)) (a .x, a .y)
+ok : (c : tie.Else2) → let s = start (c .before .before) in let a = s .args in VisitFits (a .part) (data-of s) (a .luma) (a .u) (a .v) (length (a .marks .now)) (a .x, a .y)
 ok c =
     let s = start (c .before .before) in
     let a = s .args in
     let z = zero (c .before .before) in
     let four = or-false _ _ (passes 4 (grids s) tt (zero-2 c)) in
-    visit-fits (data-of s) (a .luma) (a .u) (a .v) (length (a .marks .now)) (a .x, a .y)
-    (fitting (data-of s) (a .luma) (a .u) (a .v) (passes 1 (picture s) tt z) (passes 3 (picture s) tt z) (four .0)) (passes 2 (picture s) tt z) (four .1)
+    visit-fits (a .part) (data-of s) (a .luma) (a .u) (a .v) (length (a .marks .now)) (a .x, a .y)
+    (fitting (a .part) (data-of s) (a .luma) (a .u) (a .v) (passes 1 (picture s) tt z) (passes 19 (picture s) tt z) (passes 3 (picture s) tt z) (four .0)) (passes 2 (picture s) tt z) (four .1)
 
 returns : tie.Need-returns
 returns c =
@@ -75,11 +75,11 @@ visit-entries c κs =
     let a = s .args in
     let g = ok c in
     let f = g .fit in
-    let inside = in-picture (data-of s) (a .luma) (a .u) (a .v) (length (a .marks .now)) (a .x, a .y) g in
-    let i = index (data-of s) (a .luma) (a .u) (a .v) (length (a .marks .now)) (a .x, a .y) g in (
+    let inside = in-picture (a .part) (data-of s) (a .luma) (a .u) (a .v) (length (a .marks .now)) (a .x, a .y) g in
+    let i = index (a .part) (data-of s) (a .luma) (a .u) (a .v) (length (a .marks .now)) (a .x, a .y) g in (
       inside (length (a .marks .now)) (g .marks),
       inside (length (a .qps .now)) (f .qps),
-      in-largest (data-of s) (a .luma) (a .u) (a .v) (length (a .marks .now)) (a .x, a .y) g,
+      in-largest (a .part) (data-of s) (a .luma) (a .u) (a .v) (length (a .marks .now)) (a .x, a .y) g,
       omega (arith, f .strengths),
       λ h. omega (arith, f .t8s h),
     )

@@ -6,10 +6,12 @@ use Prim.Native.Nat.{_+_, _*_, _<_}
 use native.Mathlib.Omega.{arith}
 use lib.ListN.{length}
 use Rattle.edges.specs.Picture.{Planes, planes}
+use Rattle.edges.specs.Fields.{onPart}
+use Rattle.edges.proofs.OnPart.{mb-on-part}
 use Rattle.edges.proofs.Pictures.{step-index}
 use Rattle.visits.specs.Visit.{At, State}
 use Rattle.pictures.specs.Checks.{Lent, lent, heldOf}
-use Rattle.visits.specs.Checks.{earlyOf}
+use Rattle.visits.specs.Checks.{earlyIn}
 use Rattle.visits.proofs.Outcome.{answer-early, answer-13, answer-14, answer-0, refused-outcome, done-outcome}
 use Rattle.visits.proofs.VisitFits.{VisitFits, checked-visit-fits, index, in-picture, room}
 use Rattle.visits.proofs.visits.visit.Statement.{statement}
@@ -28,32 +30,32 @@ asked s = (s .args .x, s .args .y)
 abbrev start : tie.Else1 → tie.Start
 start c = c .before .before .before .before .before .before .before .before .before .before
 
-zero : (c : tie.Else1) → let s = start c in earlyOf (data-of s) (state s) (asked s) ≡ 0
-unfolding earlyOf
+zero : (c : tie.Else1) → let s = start c in earlyIn (s .args .part) (data-of s) (state s) (asked s) ≡ 0
+unfolding earlyIn
 zero c = sym (c .before .refuse-early .ensures) ∙ c .if1 .left
 
 ok : (c : tie.Else1) → let s = start c in let a = s .args in
-    VisitFits (data-of s) (length (a .luma .now)) (length (a .u .now)) (length (a .v .now)) (length (a .marks .now)) (asked s)
-unfolding earlyOf
-ok c = let s = start c in let a = s .args in checked-visit-fits (data-of s) (length (a .luma .now)) (length (a .u .now)) (length (a .v .now)) (a .marks .now) (asked s) (zero c)
+    VisitFits (a .part) (data-of s) (length (a .luma .now)) (length (a .u .now)) (length (a .v .now)) (length (a .marks .now)) (asked s)
+unfolding earlyIn
+ok c = let s = start c in let a = s .args in checked-visit-fits (a .part) (data-of s) (length (a .luma .now)) (length (a .u .now)) (length (a .v .now)) (a .marks .now) (asked s) (zero c)
 
 place : (c : tie.Else1) → let a = start c .args in a .y * a .size .w + a .x < a .size .w * a .size .h
-place c = let s = start c in index (data-of s) _ _ _ _ (asked s) (ok c)
+place c = let s = start c in index (s .args .part) (data-of s) _ _ _ _ (asked s) (ok c)
 
 -- a refusal before 13
 returns : tie.Need-returns
-unfolding earlyOf
+unfolding earlyIn
 returns c =
     let s = c .before .before .before .before .before .before .before .before .before .before in
     let e = c .before .refuse-early .ensures in
     refused-outcome
-    (answer-early (s .args .size .w) (earlyOf (data-of s)) (state s) (asked s) (λ k. c .if1 .taken (e ∙ k)) ∙ sym e) (c .if1 .taken)
+    (answer-early (s .args .size .w) (earlyIn (s .args .part) (data-of s)) (state s) (asked s) (λ k. c .if1 .taken (e ∙ k)) ∙ sym e) (c .if1 .taken)
 
 returns-2 : tie.Need-returns-2
 returns-2 c =
     let f = c .before .before in
     let s = start f in
-    refused-outcome (answer-13 (s .args .size .w) (earlyOf (data-of s)) (state s) (asked s) (zero f) (eq-eqb _ 1 (c .if2 .taken))) (omega arith)
+    refused-outcome (answer-13 (s .args .size .w) (earlyIn (s .args .part) (data-of s)) (state s) (asked s) (zero f) (eq-eqb _ 1 (c .if2 .taken))) (omega arith)
 
 -- the mark is not set
 abbrev past : tie.Else2 → tie.Else1
@@ -63,7 +65,7 @@ waits-requires : tie.Need-waits-requires
 waits-requires c κs =
     let f = past (c .before) in
     let s = start f in
-    in-picture (data-of s) _ _ _ _ (asked s) (ok f) (length (s .args .marks .now)) (ok f .marks)
+    in-picture (s .args .part) (data-of s) _ _ _ _ (asked s) (ok f) (length (s .args .marks .now)) (ok f .marks)
 
 returns-3 : tie.Need-returns-3
 returns-3 c =
@@ -71,7 +73,7 @@ returns-3 c =
     let f = past two in
     let s = start f in
     refused-outcome
-    (answer-14 (s .args .size .w) (earlyOf (data-of s)) (state s) (asked s) (zero f) (ne-eqb _ 1 (two .if2 .left)) (sym (c .before .waits .ensures) ∙ c .if3 .taken))
+    (answer-14 (s .args .size .w) (earlyIn (s .args .part) (data-of s)) (state s) (asked s) (zero f) (ne-eqb _ 1 (two .if2 .left)) (sym (c .before .waits .ensures) ∙ c .if3 .taken))
     (omega arith)
 
 -- it waits for none
@@ -83,7 +85,7 @@ macroblock-requires c κs =
     let all = c .before .before .before .before in
     let f = past (before-three (all .before)) in
     let s = start f in
-    (all .all .ensures, (omega (arith, ok f .column), room (data-of s) _ _ _ _ (asked s) (ok f)))
+    (all .all .ensures, (ok f .fit .parity, omega (arith, ok f .column), room (s .args .part) (data-of s) _ _ _ _ (asked s) (ok f)))
 
 returns-4 : tie.Need-returns-4
 returns-4 c =
@@ -92,9 +94,14 @@ returns-4 c =
     let two = before-three three in
     let f = past two in
     let s = start f in
+    let a = s .args in
+    let g = ok f in
     done-outcome
-    (answer-0 (s .args .size .w) (earlyOf (data-of s)) (state s) (asked s) (zero f) (ne-eqb _ 1 (two .if2 .left)) (sym (three .before .waits .ensures) ∙ three .if3 .left))
-    (m .macroblock .ensures ∙ sym (step-index (heldOf (data-of s)) (s .args .x) (s .args .y) (ok f .column) (state s .0)))
+    (answer-0 (s .args .size .w) (earlyIn (s .args .part) (data-of s)) (state s) (asked s) (zero f) (ne-eqb _ 1 (two .if2 .left)) (sym (three .before .waits .ensures) ∙ three .if3 .left))
+    (m .macroblock .ensures
+    ∙ mb-on-part (heldOf (data-of s)) (a .size .h) (g .fit .sides .both .wide) (a .part) (g .fit .parity) (a .x) (a .y) (g .column) (g .row) (state s .0)
+    (record { luma = g .fit .luma; u = g .fit .u; v = g .fit .v })
+    ∙ (λ i. onPart (a .part) (a .size) (λ t. sym (step-index (heldOf (data-of s)) (a .x) (a .y) (g .column) t) i) (state s .0)))
     refl
 
 pub visit-spec : {M : Type 1} → statement M

@@ -1,0 +1,4 @@
+pub mod Views
+pub mod Carrying
+pub mod Parts
+pub mod TwoFields

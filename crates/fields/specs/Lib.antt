@@ -1,0 +1,3 @@
+pub mod Carried
+pub mod Lens
+pub mod Lines

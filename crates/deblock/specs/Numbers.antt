@@ -1,9 +1,11 @@
 -- The numbers that the C interface takes, as the calls take them.
-use Prim.Native.Nat.{ℕ}
+use Prim.Native.Nat.{ℕ, _-_}
 use mathlib.Core.Bool.{Bool, cond, not, _||_}
 use lib.Dec.{eqb, ltb}
 use lib.IntN.{ℤ}
 use Rattle.edges.specs.declared.Offsets.{Offsets}
+use Rattle.sizes.specs.declared.Part.{Part}
+use Rattle.sizes.specs.declared.Part.the-variants.{Frame, Field}
 use Rattle.sizes.specs.declared.Size.{Size}
 use Rattle.motion.specs.Grids.{Grids}
 use Rattle.strengths.specs.Calls.{untrueKind}
@@ -16,6 +18,11 @@ use Rattle.strengths.specs.declared.kinds.Request.{Request}
 -- a picture's sides
 abbrev pub sizeOf : ℕ → ℕ → Size
 sizeOf w h = record { w = w; h = h }
+
+-- the part of a frame's planes: 0 is the frame, 1 its top field, of parity 0, 2 its bottom field, of parity 1. A
+-- number above 2 is a field of another parity, which check 19 refuses
+abbrev pub partNumber : ℕ → Part
+partNumber k = cond (eqb k 0) Frame (Field (k - 1))
 
 -- the three offsets
 abbrev pub offsets : ℤ → ℤ → ℤ → Offsets

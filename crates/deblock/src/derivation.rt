@@ -3,7 +3,7 @@ ghost use mathlib.Core.Path.{_≡_};
 ghost use mathlib.Core.Bool.{false};
 ghost use Rattle.motion.specs.Grids.{grids};
 ghost use Rattle.strengths.specs.Calls.{DeriveOutcome, FlagsOutcome, PlainOutcome};
-ghost use Rattle.deblock.specs.Numbers.{sizeOf, plain, flagged, kindNumber, untrueNumber};
+ghost use Rattle.deblock.specs.Numbers.{sizeOf, isSet, plain, flagged, kindNumber, untrueNumber};
 use sizes::Size;
 use strengths::calls::derive_mb;
 use strengths::calls::derive_mb_bs;
@@ -19,6 +19,7 @@ use strengths::kinds::Request;
 pub extern "C" fn deblock_strengths<'a>(
     w: usize,
     h: usize,
+    field: u8,
     x: usize,
     y: usize,
     t8: u8,
@@ -30,11 +31,22 @@ pub extern "C" fn deblock_strengths<'a>(
     mv1: &'a [i16],
     strengths: &mut [u8],
 ) -> u32
-    ensures { λ n. ⌜ PlainOutcome (sizeOf w h) (plain x y t8) (grids (now (inter .entry)) (now (nnz .entry)) (now (ref0 .entry)) (now (mv0 .entry)) (now (ref1 .entry)) (now (mv1 .entry))) (now (strengths .entry)) n (now (strengths .exit)) ⌝ }
+    ensures { λ n. ⌜ PlainOutcome (sizeOf w h) (isSet field) (plain x y t8) (grids (now (inter .entry)) (now (nnz .entry)) (now (ref0 .entry)) (now (mv0 .entry)) (now (ref1 .entry)) (now (mv1 .entry))) (now (strengths .entry)) n (now (strengths .exit)) ⌝ }
 {
     let size = Size { w, h };
     let p = Plain { x, y, t8: t8 != 0 };
-    derive_mb(size, p, inter, nnz, ref0, mv0, ref1, mv1, strengths)
+    derive_mb(
+        size,
+        field != 0,
+        p,
+        inter,
+        nnz,
+        ref0,
+        mv0,
+        ref1,
+        mv1,
+        strengths,
+    )
 }
 
 // Strengths with flags that the caller sets where they are true.
@@ -42,6 +54,7 @@ pub extern "C" fn deblock_strengths<'a>(
 pub extern "C" fn deblock_strengths_flags<'a>(
     w: usize,
     h: usize,
+    field: u8,
     x: usize,
     y: usize,
     flat: u8,
@@ -55,7 +68,7 @@ pub extern "C" fn deblock_strengths_flags<'a>(
     mv1: &'a [i16],
     strengths: &mut [u8],
 ) -> u32
-    ensures { λ n. ⌜ FlagsOutcome (sizeOf w h) (flagged x y flat uniform t8) (grids (now (inter .entry)) (now (nnz .entry)) (now (ref0 .entry)) (now (mv0 .entry)) (now (ref1 .entry)) (now (mv1 .entry))) (now (strengths .entry)) n (now (strengths .exit)) ⌝ }
+    ensures { λ n. ⌜ FlagsOutcome (sizeOf w h) (isSet field) (flagged x y flat uniform t8) (grids (now (inter .entry)) (now (nnz .entry)) (now (ref0 .entry)) (now (mv0 .entry)) (now (ref1 .entry)) (now (mv1 .entry))) (now (strengths .entry)) n (now (strengths .exit)) ⌝ }
 {
     let size = Size { w, h };
     let f = Flagged {
@@ -65,7 +78,18 @@ pub extern "C" fn deblock_strengths_flags<'a>(
         uniform: uniform != 0,
         t8: t8 != 0,
     };
-    derive_mb_bs(size, f, inter, nnz, ref0, mv0, ref1, mv1, strengths)
+    derive_mb_bs(
+        size,
+        field != 0,
+        f,
+        inter,
+        nnz,
+        ref0,
+        mv0,
+        ref1,
+        mv1,
+        strengths,
+    )
 }
 
 // The kind that a number up to 3 stands for.
@@ -89,6 +113,7 @@ fn kind_of_number(k: u8) -> MbKind
 pub extern "C" fn deblock_strengths_kind<'a>(
     w: usize,
     h: usize,
+    field: u8,
     x: usize,
     y: usize,
     kind: u8,
@@ -100,7 +125,7 @@ pub extern "C" fn deblock_strengths_kind<'a>(
     mv1: &'a [i16],
     strengths: &mut [u8],
 ) -> u32
-    ensures { λ n. ⌜ DeriveOutcome (sizeOf w h) x y false (grids (now (inter .entry)) (now (nnz .entry)) (now (ref0 .entry)) (now (mv0 .entry)) (now (ref1 .entry)) (now (mv1 .entry))) (untrueNumber (sizeOf w h) x y kind (grids (now (inter .entry)) (now (nnz .entry)) (now (ref0 .entry)) (now (mv0 .entry)) (now (ref1 .entry)) (now (mv1 .entry)))) (now (strengths .entry)) n (now (strengths .exit)) ⌝ }
+    ensures { λ n. ⌜ DeriveOutcome (sizeOf w h) (isSet field) x y false (grids (now (inter .entry)) (now (nnz .entry)) (now (ref0 .entry)) (now (mv0 .entry)) (now (ref1 .entry)) (now (mv1 .entry))) (untrueNumber (sizeOf w h) x y kind (grids (now (inter .entry)) (now (nnz .entry)) (now (ref0 .entry)) (now (mv0 .entry)) (now (ref1 .entry)) (now (mv1 .entry)))) (now (strengths .entry)) n (now (strengths .exit)) ⌝ }
 {
     let size = Size { w, h };
     if 3 < kind {
@@ -120,5 +145,16 @@ pub extern "C" fn deblock_strengths_kind<'a>(
     }
     let kind = kind_of_number(kind);
     let r = Request { x, y, kind };
-    derive_mb_kind(size, r, inter, nnz, ref0, mv0, ref1, mv1, strengths)
+    derive_mb_kind(
+        size,
+        field != 0,
+        r,
+        inter,
+        nnz,
+        ref0,
+        mv0,
+        ref1,
+        mv1,
+        strengths,
+    )
 }

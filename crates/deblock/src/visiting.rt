@@ -2,7 +2,8 @@
 ghost use Rattle.edges.specs.Picture.{planes};
 ghost use Rattle.pictures.specs.Checks.{lent};
 ghost use Rattle.visits.specs.Promise.{VisitOutcome};
-ghost use Rattle.deblock.specs.Numbers.{sizeOf, offsets};
+ghost use Rattle.deblock.specs.Numbers.{sizeOf, partNumber, offsets};
+use crate::filtering::part_of_number;
 use edges::Offsets;
 use sizes::Size;
 use visits::visits::visit;
@@ -12,6 +13,7 @@ use visits::visits::visit;
 pub extern "C" fn deblock_visit(
     w: usize,
     h: usize,
+    part: u8,
     x: usize,
     y: usize,
     a: i32,
@@ -25,9 +27,10 @@ pub extern "C" fn deblock_visit(
     t8s: &[u8],
     marks: &mut [u8],
 ) -> u32
-    ensures { λ n. ⌜ VisitOutcome (lent (sizeOf w h) (offsets a b chroma) (now (strengths .entry)) (now (qps .entry)) (now (t8s .entry))) (planes (now (luma .entry)) (now (u .entry)) (now (v .entry)), now (marks .entry)) (x, y) n (planes (now (luma .exit)) (now (u .exit)) (now (v .exit)), now (marks .exit)) ⌝ }
+    ensures { λ n. ⌜ VisitOutcome (partNumber part) (lent (sizeOf w h) (offsets a b chroma) (now (strengths .entry)) (now (qps .entry)) (now (t8s .entry))) (planes (now (luma .entry)) (now (u .entry)) (now (v .entry)), now (marks .entry)) (x, y) n (planes (now (luma .exit)) (now (u .exit)) (now (v .exit)), now (marks .exit)) ⌝ }
 {
     let size = Size { w, h };
+    let part = part_of_number(part);
     let o = Offsets { a, b, chroma };
-    visit(size, x, y, o, luma, u, v, strengths, qps, t8s, marks)
+    visit(size, part, x, y, o, luma, u, v, strengths, qps, t8s, marks)
 }

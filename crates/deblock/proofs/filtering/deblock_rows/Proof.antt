@@ -1,4 +1,4 @@
--- `deblock_rows`: what it hands on to `filter_frame_rows` is what it was given. Assumes nothing.
+-- `deblock_rows`: what it hands on to `filter_rows` is what it was given. Assumes nothing.
 use borrow.Author.Needs.{needs}
 use mir.Facts.{toZ-ofZ}
 use Rattle.deblock.specs.Numbers.{offsets}
@@ -9,8 +9,9 @@ use Rattle.deblock.proofs.filtering.deblock_rows.Tie as tie
 returns : tie.Need-returns
 returns c =
     let d = c .before .before .before .before .before .before in
-    let f = d .before .before .before .before .before .before .before .before .before .before .fits in
-    rows-kept _ _ _ _ _ _ _ _ _ (λ i. offsets (toZ-ofZ (f .a) i) (toZ-ofZ (f .b) i) (toZ-ofZ (f .chroma) i)) (d .filter-frame-rows .ensures)
+    let m = d .before .before .before .before in
+    let f = m .before .before .before .before .before .before .before .fits in
+    rows-kept _ _ _ _ _ _ _ _ _ (m .part-of-number .ensures) (λ i. offsets (toZ-ofZ (f .a) i) (toZ-ofZ (f .b) i) (toZ-ofZ (f .chroma) i)) (d .filter-rows .ensures)
 
 pub deblock-rows-spec : {M : Type 1} → statement M
-deblock-rows-spec = tie.close (tie.spec (λ c κs. search needs) (λ c. search needs) (λ c. search needs) (λ c. search needs) returns)
+deblock-rows-spec = tie.close (tie.spec (λ c κs. search needs) (λ c κs. search needs) (λ c. search needs) (λ c. search needs) (λ c. search needs) returns)

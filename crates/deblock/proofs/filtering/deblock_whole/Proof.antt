@@ -1,16 +1,17 @@
--- `deblock_frame`: what it hands on to `filter_frame` is what it was given. Assumes nothing.
+-- `deblock_whole`: what it hands on to `filter_whole` is what it was given. Assumes nothing.
 use borrow.Author.Needs.{needs}
 use mir.Facts.{toZ-ofZ}
 use Rattle.deblock.specs.Numbers.{offsets}
 use Rattle.deblock.proofs.Kept.{rows-kept}
-use Rattle.deblock.proofs.filtering.deblock_frame.Statement.{statement}
-use Rattle.deblock.proofs.filtering.deblock_frame.Tie as tie
+use Rattle.deblock.proofs.filtering.deblock_whole.Statement.{statement}
+use Rattle.deblock.proofs.filtering.deblock_whole.Tie as tie
 
 returns : tie.Need-returns
 returns c =
     let d = c .before .before .before .before .before .before in
-    let f = d .before .before .before .before .before .before .before .before .before .before .fits in
-    rows-kept _ _ _ _ _ _ _ _ _ (λ i. offsets (toZ-ofZ (f .a) i) (toZ-ofZ (f .b) i) (toZ-ofZ (f .chroma) i)) (d .filter-frame .ensures)
+    let m = d .before .before .before .before in
+    let f = m .before .before .before .before .before .before .before .fits in
+    rows-kept _ _ _ _ _ _ _ _ _ (m .part-of-number .ensures) (λ i. offsets (toZ-ofZ (f .a) i) (toZ-ofZ (f .b) i) (toZ-ofZ (f .chroma) i)) (d .filter-whole .ensures)
 
-pub deblock-frame-spec : {M : Type 1} → statement M
-deblock-frame-spec = tie.close (tie.spec (λ c κs. search needs) (λ c. search needs) (λ c. search needs) (λ c. search needs) returns)
+pub deblock-whole-spec : {M : Type 1} → statement M
+deblock-whole-spec = tie.close (tie.spec (λ c κs. search needs) (λ c κs. search needs) (λ c. search needs) (λ c. search needs) (λ c. search needs) returns)

@@ -9,8 +9,9 @@ use Rattle.deblock.proofs.visiting.deblock_visit.Tie as tie
 returns : tie.Need-returns
 returns c =
     let d = c .before .before .before .before .before .before .before .before in
-    let f = d .before .before .before .before .before .before .before .before .before .before .before .before .fits in
-    visit-kept _ _ _ _ _ _ _ _ (λ i. offsets (toZ-ofZ (f .a) i) (toZ-ofZ (f .b) i) (toZ-ofZ (f .chroma) i)) (d .visit .ensures)
+    let m = d .before .before .before .before .before in
+    let f = m .before .before .before .before .before .before .before .before .fits in
+    visit-kept _ _ _ _ _ _ _ _ (m .part-of-number .ensures) (λ i. offsets (toZ-ofZ (f .a) i) (toZ-ofZ (f .b) i) (toZ-ofZ (f .chroma) i)) (d .visit .ensures)
 
 pub deblock-visit-spec : {M : Type 1} → statement M
-deblock-visit-spec = tie.close (tie.spec (λ c κs. search needs) (λ c. search needs) (λ c. search needs) (λ c. search needs) (λ c. search needs) returns)
+deblock-visit-spec = tie.close (tie.spec (λ c κs. search needs) (λ c κs. search needs) (λ c. search needs) (λ c. search needs) (λ c. search needs) (λ c. search needs) returns)

@@ -1,0 +1,10 @@
+pub mod Apart
+pub mod Calls
+pub mod OneField
+pub mod EachAlone
+pub mod FieldsDemand3
+pub mod Finished
+pub mod TwoWholes
+pub mod ByContracts
+pub mod LateFields
+pub mod Refused

@@ -64,7 +64,7 @@ int main(void)
     uint8_t by_visits[sizeof planes];
     memcpy(by_visits, planes, sizeof planes);
     decode();
-    uint32_t answer = deblock_picture_frame(&p);
+    uint32_t answer = deblock_picture_whole(&p);
     printf("whole picture: %s, %s planes\n", deblock_answer_text(answer),
            memcmp(by_visits, planes, sizeof planes) == 0 ? "the same" : "other");
     return 0;

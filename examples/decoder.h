@@ -1,6 +1,6 @@
-/* For examples/slices.c: a decoder's stand-in, which makes random pictures and the order in which their
- * slices arrive; and a picture's memory, how it is lent and how a macroblock of it is copied. All values are
- * legal, though no encoder would choose them so. */
+/* For examples/slices.c and fields.c: a decoder's stand-in, which makes random pictures and the order in
+ * which their slices arrive; and a picture's memory, how it is lent and how a macroblock of it is copied. All
+ * values are legal, though no encoder would choose them so. */
 #include <string.h>
 
 #include "deblock.h"

@@ -174,7 +174,7 @@ static void compare(void)
     rows = whole;
     filter_rows(&rows);
     const struct deblock_picture p = lend_picture(&whole);
-    must_be_done(deblock_picture_frame(&p));
+    must_be_done(deblock_picture_whole(&p));
     must(memcmp(&rows.planes, &whole.planes, sizeof screen) == 0, "rows from the top give other planes");
     must(memcmp(&station.planes, &whole.planes, sizeof screen) == 0, "visits give other planes");
     must(memcmp(&screen, &whole.planes, sizeof screen) == 0, "the screen is not as the planes are");

@@ -22,17 +22,18 @@
  *   - Calls are re-entrant. None allocates, waits, or keeps a pointer after it has returned.
  *   - The archive has no variables and needs no library, libc included: `nm -u` names no symbol.
  *   - Threads: calls on different pictures may be made at the same time. Two calls that share a buffer which
- *     either of them writes may not: no two visits of one picture, no two strength calls that are lent the
- *     same strengths, no filtering while its strengths are written. Buffers that are only read may be shared.
- *   - Stack: bytes that a call touched, measured by target/host/release/stack, on x86-64 and on Arm: frame
+ *     either of them writes may not: no two visits of one picture, no filtering of both fields of a frame, no
+ *     two strength calls that are lent the same strengths, no filtering while its strengths are written.
+ *     Buffers that are only read may be shared.
+ *   - Stack: bytes that a call touched, measured by target/host/release/stack, on x86-64 and on Arm: whole
  *     1912 and 1264, rows 1928 and 1280, visit 1696 and 1120, strengths 936 and 784, with flags 952 and 800,
- *     with a kind 1032 and 832 (docs/SPEED.md, "Stack", says how). A function over structs takes at most 160
- *     more at -O2, 720 at -O0 (clang 14 on both, gcc 12 on Arm: -fstack-usage).
+ *     with a kind 1032 and 832 (docs/SPEED.md, "Stack", says how). A function over structs takes at most 240
+ *     more at -O2, 752 at -O0 (-fstack-usage of clang 14 for both, of gcc 12 for x86-64).
  *
  * Sizes. A picture is w by h macroblocks, 1 <= w <= 256, 1 <= h <= 256, w * h <= 36864. Macroblock (x, y) has
  * index y * w + x. With n = w * h the lengths are:
- *   luma               256 * n   16 * w samples a row
- *   u, v                64 * n   chroma, 8 * w samples a row
+ *   luma               256 * n   lines of 16 * w samples; for a field 512 * n
+ *   u, v                64 * n   chroma, lines of 8 * w samples; for a field 128 * n
  *   strengths           32 * n   0 to 4: for each macroblock 16 of vertical edges (edge 0 first, 4 an edge,
  *                                from top to bottom), then 16 of horizontal ones (from left to right)
  *   qps                      n   0 to 51
@@ -43,6 +44,12 @@
  *   mv0                 32 * n   per 4x4 block its vector's x, then y
  *   ref1, mv1           16 * n and 32 * n, or both 0: list 1
  * The offsets a, b and chroma are FilterOffsetA, FilterOffsetB and chroma_qp_index_offset, each -12 to 12.
+ *
+ * Fields. A picture is a frame, or one of a frame's two fields: the top one on the even lines of the frame's
+ * planes, counted from 0, the bottom one on the odd lines. Of a field w and h are its own, the planes are its
+ * frame's, with the lines of both fields, and a call reads and writes its own field's. All else is lent per
+ * field. Vectors are in quarter samples of the field, and a reference names a field: each has a number of its
+ * own. docs/GUIDE.md, "Fields", has the calls for an interlaced frame.
  */
 #ifndef DEBLOCK_H
 #define DEBLOCK_H
@@ -51,16 +58,17 @@
 #include <stdint.h>
 
 #define DEBLOCK_VERSION_MAJOR 0
-#define DEBLOCK_VERSION_MINOR 2
+#define DEBLOCK_VERSION_MINOR 3
 #define DEBLOCK_VERSION_PATCH 0
-#define DEBLOCK_VERSION "0.2.0"
+#define DEBLOCK_VERSION "0.3.0"
 
-/* What a call answers. Checks are made in this order, each call making those whose data it takes; the first
- * that applies is the answer. */
+/* What a call answers. Checks are made in the order of this list, each call making those whose data it takes;
+ * the first that applies is the answer. The numbers are not in that order: 19 is asked between 2 and 3. */
 enum deblock_answer {
     DEBLOCK_DONE = 0,
     DEBLOCK_BAD_SIZE = 1,               /* w, h or their product is outside its range */
     DEBLOCK_OUTSIDE = 2,                /* macroblock outside the picture, or not first <= last <= h */
+    DEBLOCK_BAD_PARITY = 19,            /* the part is none of enum deblock_part */
     DEBLOCK_PLANE_LENGTH = 3,           /* a plane has the wrong length */
     DEBLOCK_MACROBLOCK_GRID_LENGTH = 4, /* strengths, qps, t8s or marks have the wrong length */
     DEBLOCK_BLOCK_GRID_LENGTH = 5,      /* a 4x4 grid has the wrong length, or just one of list 1 is empty */
@@ -95,8 +103,17 @@ static inline const char *deblock_answer_text(uint32_t answer)
         "the macroblock was visited before",
         "its left, upper or upper right neighbour is not visited yet",
     };
+    if (answer == DEBLOCK_BAD_PARITY)
+        return "the part is not a frame, a top field or a bottom field";
     return answer < sizeof texts / sizeof *texts ? texts[answer] : "no answer of this version";
 }
+
+/* What part of a frame the picture is. */
+enum deblock_part {
+    DEBLOCK_FRAME = 0,       /* the whole frame */
+    DEBLOCK_TOP_FIELD = 1,   /* its even lines: parity 0 */
+    DEBLOCK_BOTTOM_FIELD = 2 /* its odd lines: parity 1 */
+};
 
 /* What the caller knows of a macroblock: a kind, or flags to be joined by |. */
 enum deblock_kind {
@@ -115,19 +132,22 @@ enum deblock_flag {
 extern "C" {
 #endif
 
+/* The three filtering calls are told of a part, a number of enum deblock_part; any other is refused. */
+
 /* Filters a whole picture. It neither reads nor sets marks, and called again it filters again.
- * Writes luma, u, v. Answers 0, 1, 3, 4, 6, 7, 8, 9. */
-uint32_t deblock_frame(size_t w, size_t h, int32_t a, int32_t b, int32_t chroma,
+ * Writes luma, u, v. Answers 0, 1, 19, 3, 4, 6, 7, 8, 9. */
+uint32_t deblock_whole(size_t w, size_t h, uint8_t part, int32_t a, int32_t b, int32_t chroma,
                        uint8_t *luma, size_t luma_len, uint8_t *u, size_t u_len, uint8_t *v, size_t v_len,
                        const uint8_t *strengths, size_t strengths_len,
                        const uint8_t *qps, size_t qps_len, const uint8_t *t8s, size_t t8s_len);
 
 /* Filters rows first to last - 1. Each row is filtered once, from the top; that gives the planes of
- * deblock_frame, and another order may not. No mark is read or set. It reads strengths, flags and QPs of
- * those rows, and the QPs of row first - 1 where 0 < first < last. An empty range that passes checks 1 to 6
- * does nothing and answers 0.
- * Writes luma, u, v. Answers 0, 1, 2, 3, 4, 6, 7, 8, 9. */
-uint32_t deblock_rows(size_t w, size_t h, size_t first, size_t last, int32_t a, int32_t b, int32_t chroma,
+ * deblock_whole, and another order may not. No mark is read or set. It reads strengths, flags and QPs of
+ * those rows, and the QPs of row first - 1 where 0 < first < last. An empty range that passes the checks up
+ * to 6 does nothing and answers 0.
+ * Writes luma, u, v. Answers 0, 1, 2, 19, 3, 4, 6, 7, 8, 9. */
+uint32_t deblock_rows(size_t w, size_t h, uint8_t part, size_t first, size_t last,
+                      int32_t a, int32_t b, int32_t chroma,
                       uint8_t *luma, size_t luma_len, uint8_t *u, size_t u_len, uint8_t *v, size_t v_len,
                       const uint8_t *strengths, size_t strengths_len,
                       const uint8_t *qps, size_t qps_len, const uint8_t *t8s, size_t t8s_len);
@@ -137,8 +157,9 @@ uint32_t deblock_rows(size_t w, size_t h, size_t first, size_t last, int32_t a, 
  * and of its left, upper and upper right neighbours, and samples of it and of its left and upper neighbours.
  * So what belongs to a macroblock may be written until its own visit, and not after it; before, let its QP be
  * a legal one. It may be shown once it, its right and its lower neighbour, as far as they exist, are marked.
- * Writes luma, u, v, marks. Answers 0, 1, 2, 3, 4, 6, 7, 8, 9, 13, 14. */
-uint32_t deblock_visit(size_t w, size_t h, size_t x, size_t y, int32_t a, int32_t b, int32_t chroma,
+ * Writes luma, u, v, marks. Answers 0, 1, 2, 19, 3, 4, 6, 7, 8, 9, 13, 14. */
+uint32_t deblock_visit(size_t w, size_t h, uint8_t part, size_t x, size_t y,
+                       int32_t a, int32_t b, int32_t chroma,
                        uint8_t *luma, size_t luma_len, uint8_t *u, size_t u_len, uint8_t *v, size_t v_len,
                        const uint8_t *strengths, size_t strengths_len,
                        const uint8_t *qps, size_t qps_len, const uint8_t *t8s, size_t t8s_len,
@@ -147,11 +168,13 @@ uint32_t deblock_visit(size_t w, size_t h, size_t x, size_t y, int32_t a, int32_
 /* The three strength calls read the 16 blocks of macroblock (x, y), four to the left where x > 0 and four
  * above where y > 0, and write the 32 strengths of the macroblock and no others. These blocks have to be
  * there: a call cannot tell one that has not arrived. Where it answers 0 a call with true flags writes what
- * deblock_strengths writes, and one with a true kind what it writes at t8 = 0. */
+ * deblock_strengths writes, and one with a true kind what it writes at t8 = 0. field other than 0 means that
+ * the picture is a field: vectors are then far from a vertical difference of 2 quarter samples on, not of 4,
+ * and the upper edge of or under an intra macroblock gets 3, not 4. */
 
 /* Strengths of a macroblock of which nothing is known but its transform: t8 other than 0 means 8x8.
  * Writes strengths. Answers 0, 1, 2, 4, 5, 7, 10, 11. */
-uint32_t deblock_strengths(size_t w, size_t h, size_t x, size_t y, uint8_t t8,
+uint32_t deblock_strengths(size_t w, size_t h, uint8_t field, size_t x, size_t y, uint8_t t8,
                            const uint8_t *inter, size_t inter_len, const uint8_t *nnz, size_t nnz_len,
                            const int8_t *ref0, size_t ref0_len, const int16_t *mv0, size_t mv0_len,
                            const int8_t *ref1, size_t ref1_len, const int16_t *mv1, size_t mv1_len,
@@ -159,7 +182,7 @@ uint32_t deblock_strengths(size_t w, size_t h, size_t x, size_t y, uint8_t t8,
 
 /* The same with flags, each set by any number but 0. flat and uniform may be left unset where they are true.
  * Writes strengths. Answers 0, 1, 2, 4, 5, 7, 10, 11, 12. */
-uint32_t deblock_strengths_flags(size_t w, size_t h, size_t x, size_t y,
+uint32_t deblock_strengths_flags(size_t w, size_t h, uint8_t field, size_t x, size_t y,
                                  uint8_t flat, uint8_t uniform, uint8_t t8,
                                  const uint8_t *inter, size_t inter_len, const uint8_t *nnz, size_t nnz_len,
                                  const int8_t *ref0, size_t ref0_len, const int16_t *mv0, size_t mv0_len,
@@ -168,7 +191,7 @@ uint32_t deblock_strengths_flags(size_t w, size_t h, size_t x, size_t y,
 
 /* The same with a kind, a number of enum deblock_kind; the transform counts as 4x4. Any other number is a
  * kind that is true of no grids. Writes strengths. Answers 0, 1, 2, 4, 5, 7, 10, 11, 12. */
-uint32_t deblock_strengths_kind(size_t w, size_t h, size_t x, size_t y, uint8_t kind,
+uint32_t deblock_strengths_kind(size_t w, size_t h, uint8_t field, size_t x, size_t y, uint8_t kind,
                                 const uint8_t *inter, size_t inter_len, const uint8_t *nnz, size_t nnz_len,
                                 const int8_t *ref0, size_t ref0_len, const int16_t *mv0, size_t mv0_len,
                                 const int8_t *ref1, size_t ref1_len, const int16_t *mv1, size_t mv1_len,
@@ -193,6 +216,7 @@ uint32_t deblock_strengths_kind(size_t w, size_t h, size_t x, size_t y, uint8_t 
 /* What stays the same throughout a picture, with its marks. */
 struct deblock_picture {
     size_t w, h;
+    uint8_t part; /* of enum deblock_part; to a strength call all but DEBLOCK_FRAME are a field */
     int32_t offset_a, offset_b, offset_chroma;
     uint8_t *luma; size_t luma_len;
     uint8_t *u; size_t u_len;
@@ -248,10 +272,10 @@ static inline struct deblock_grids deblock_grids_lent(struct deblock_grids g)
 }
 
 /* Each of these does what the flat call of its name does. */
-static inline uint32_t deblock_picture_frame(const struct deblock_picture *picture)
+static inline uint32_t deblock_picture_whole(const struct deblock_picture *picture)
 {
     const struct deblock_picture p = deblock_picture_lent(*picture);
-    return deblock_frame(p.w, p.h, p.offset_a, p.offset_b, p.offset_chroma,
+    return deblock_whole(p.w, p.h, p.part, p.offset_a, p.offset_b, p.offset_chroma,
                          p.luma, p.luma_len, p.u, p.u_len, p.v, p.v_len,
                          p.strengths, p.strengths_len, p.qps, p.qps_len, p.t8s, p.t8s_len);
 }
@@ -259,7 +283,7 @@ static inline uint32_t deblock_picture_frame(const struct deblock_picture *pictu
 static inline uint32_t deblock_picture_rows(const struct deblock_picture *picture, size_t first, size_t last)
 {
     const struct deblock_picture p = deblock_picture_lent(*picture);
-    return deblock_rows(p.w, p.h, first, last, p.offset_a, p.offset_b, p.offset_chroma,
+    return deblock_rows(p.w, p.h, p.part, first, last, p.offset_a, p.offset_b, p.offset_chroma,
                         p.luma, p.luma_len, p.u, p.u_len, p.v, p.v_len,
                         p.strengths, p.strengths_len, p.qps, p.qps_len, p.t8s, p.t8s_len);
 }
@@ -267,7 +291,7 @@ static inline uint32_t deblock_picture_rows(const struct deblock_picture *pictur
 static inline uint32_t deblock_picture_visit(const struct deblock_picture *picture, size_t x, size_t y)
 {
     const struct deblock_picture p = deblock_picture_lent(*picture);
-    return deblock_visit(p.w, p.h, x, y, p.offset_a, p.offset_b, p.offset_chroma,
+    return deblock_visit(p.w, p.h, p.part, x, y, p.offset_a, p.offset_b, p.offset_chroma,
                          p.luma, p.luma_len, p.u, p.u_len, p.v, p.v_len,
                          p.strengths, p.strengths_len, p.qps, p.qps_len, p.t8s, p.t8s_len,
                          p.marks, p.marks_len);
@@ -279,7 +303,7 @@ static inline uint32_t deblock_picture_strengths(const struct deblock_picture *p
 {
     const struct deblock_picture p = deblock_picture_lent(*picture);
     const struct deblock_grids g = deblock_grids_lent(*grids);
-    return deblock_strengths(p.w, p.h, x, y, t8,
+    return deblock_strengths(p.w, p.h, p.part != DEBLOCK_FRAME, x, y, t8,
                              g.inter, g.inter_len, g.nnz, g.nnz_len, g.ref0, g.ref0_len, g.mv0, g.mv0_len,
                              g.ref1, g.ref1_len, g.mv1, g.mv1_len, p.strengths, p.strengths_len);
 }
@@ -291,7 +315,7 @@ static inline uint32_t deblock_picture_strengths_flags(const struct deblock_pict
 {
     const struct deblock_picture p = deblock_picture_lent(*picture);
     const struct deblock_grids g = deblock_grids_lent(*grids);
-    return deblock_strengths_flags(p.w, p.h, x, y, (flags & DEBLOCK_FLAT) != 0,
+    return deblock_strengths_flags(p.w, p.h, p.part != DEBLOCK_FRAME, x, y, (flags & DEBLOCK_FLAT) != 0,
                                    (flags & DEBLOCK_UNIFORM) != 0, (flags & DEBLOCK_T8) != 0,
                                    g.inter, g.inter_len, g.nnz, g.nnz_len, g.ref0, g.ref0_len,
                                    g.mv0, g.mv0_len, g.ref1, g.ref1_len, g.mv1, g.mv1_len,
@@ -304,7 +328,7 @@ static inline uint32_t deblock_picture_strengths_kind(const struct deblock_pictu
 {
     const struct deblock_picture p = deblock_picture_lent(*picture);
     const struct deblock_grids g = deblock_grids_lent(*grids);
-    return deblock_strengths_kind(p.w, p.h, x, y, kind,
+    return deblock_strengths_kind(p.w, p.h, p.part != DEBLOCK_FRAME, x, y, kind,
                                   g.inter, g.inter_len, g.nnz, g.nnz_len, g.ref0, g.ref0_len,
                                   g.mv0, g.mv0_len, g.ref1, g.ref1_len, g.mv1, g.mv1_len,
                                   p.strengths, p.strengths_len);

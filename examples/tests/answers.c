@@ -1,5 +1,5 @@
-/* Every answer, kind and flag by its name, and the version. Prints the texts of the answers, and that of a
- * number which is none. */
+/* Every answer, part, kind and flag by its name, and the version. Prints the texts of the answers, and that
+ * of a number which is none. */
 #include "test.h"
 
 /* Each change stays while the next, which an earlier check finds, is made. */
@@ -11,21 +11,25 @@ static void filtering(void)
     expect("ready", DEBLOCK_DONE, deblock_picture_visit(&p, 0, 0));
     expect("once more", DEBLOCK_MARKED_ALREADY, deblock_picture_visit(&p, 0, 0));
     strengths[0] = 5;
-    expect("strength 5", DEBLOCK_BAD_STRENGTH, deblock_picture_frame(&p));
+    expect("strength 5", DEBLOCK_BAD_STRENGTH, deblock_picture_whole(&p));
     qps[0] = 52;
-    expect("QP 52", DEBLOCK_BAD_QP, deblock_picture_frame(&p));
+    expect("QP 52", DEBLOCK_BAD_QP, deblock_picture_whole(&p));
     marks[0] = 2;
     expect("mark 2", DEBLOCK_NOT_A_BOOL, deblock_picture_visit(&p, 0, 0));
     p.offset_chroma = 13;
-    expect("offset 13", DEBLOCK_BAD_OFFSET, deblock_picture_frame(&p));
+    expect("offset 13", DEBLOCK_BAD_OFFSET, deblock_picture_whole(&p));
     p.marks_len--;
     expect("marks cut", DEBLOCK_MACROBLOCK_GRID_LENGTH, deblock_picture_visit(&p, 0, 0));
     p.v_len--;
-    expect("V cut", DEBLOCK_PLANE_LENGTH, deblock_picture_frame(&p));
+    expect("V cut", DEBLOCK_PLANE_LENGTH, deblock_picture_whole(&p));
+    p.part = DEBLOCK_BOTTOM_FIELD + 1;
+    expect("part 3", DEBLOCK_BAD_PARITY, deblock_picture_whole(&p));
+    expect("part 3, no rows", DEBLOCK_BAD_PARITY, deblock_picture_rows(&p, 0, 0));
+    expect("part 3, visit", DEBLOCK_BAD_PARITY, deblock_picture_visit(&p, 0, 0));
     expect("outside", DEBLOCK_OUTSIDE, deblock_picture_visit(&p, 0, H));
     expect("rows 1 to 0", DEBLOCK_OUTSIDE, deblock_picture_rows(&p, 1, 0));
     p.w = 257;
-    expect("257 wide", DEBLOCK_BAD_SIZE, deblock_picture_frame(&p));
+    expect("257 wide", DEBLOCK_BAD_SIZE, deblock_picture_whole(&p));
     strengths[0] = 0;
 }
 
@@ -80,6 +84,43 @@ static void flags(const struct deblock_picture *p, const struct deblock_grids *g
     expect("8x8: edge 1", 0, strengths[4]);
 }
 
+/* The frame's planes as those of a field, with half as many macroblocks and strength 1 everywhere, which
+ * smooths 100 | 103 in column 15: in the lines of the field, and in no other. */
+static void filter_part(uint8_t part, uint32_t line0, uint32_t line1)
+{
+    struct deblock_picture p = lend_picture();
+    decode();
+    memset(strengths, 1, sizeof strengths);
+    p.part = part;
+    if (part != DEBLOCK_FRAME) {
+        p.h = H / 2;
+        p.strengths_len = 16 * N;
+        p.qps_len = p.marks_len = N / 2;
+    }
+    expect("a part", DEBLOCK_DONE, deblock_picture_whole(&p));
+    expect("line 0", line0, luma[15]);
+    expect("line 1", line1, luma[16 * W + 15]);
+}
+
+static void parts(void)
+{
+    filter_part(DEBLOCK_FRAME, 101, 101);
+    filter_part(DEBLOCK_TOP_FIELD, 101, 100);
+    filter_part(DEBLOCK_BOTTOM_FIELD, 100, 101);
+}
+
+/* Prints the texts. All numbers that are none have the same. */
+static void texts(void)
+{
+    static const uint32_t none[] = {15, 16, 17, 18, UINT32_MAX};
+    for (uint32_t answer = DEBLOCK_DONE; answer <= DEBLOCK_NOT_READY; answer++)
+        printf("%s\n", deblock_answer_text(answer));
+    printf("%s\n", deblock_answer_text(DEBLOCK_BAD_PARITY));
+    printf("%s\n", deblock_answer_text(DEBLOCK_BAD_PARITY + 1));
+    for (size_t i = 0; i < sizeof none / sizeof *none; i++)
+        expect("a text", 0, strcmp(deblock_answer_text(none[i]), deblock_answer_text(20)) != 0);
+}
+
 static void version(void)
 {
     char text[32];
@@ -96,9 +137,8 @@ int main(void)
     deriving();
     kinds(&p, &g);
     flags(&p, &g);
+    parts();
     version();
-    for (uint32_t answer = DEBLOCK_DONE; answer <= DEBLOCK_NOT_READY + 1; answer++)
-        printf("%s\n", deblock_answer_text(answer));
-    expect("a text", 0, strcmp(deblock_answer_text(UINT32_MAX), deblock_answer_text(15)) != 0);
+    texts();
     return faults != 0;
 }

@@ -39,19 +39,19 @@ static uint32_t keep(const size_t *arguments, size_t bytes, uint32_t answer)
 #define DERIVING_KEPT \
     at(i), il, at(n), nl, at(r0), r0l, at(m0), m0l, at(r1), r1l, at(m1), m1l, at(s), sl
 
-uint32_t deblock_frame(size_t w, size_t h, FILTERING)
-KEEP(101, w, h, FILTERING_KEPT)
-uint32_t deblock_rows(size_t w, size_t h, size_t first, size_t last, FILTERING)
-KEEP(102, w, h, first, last, FILTERING_KEPT)
-uint32_t deblock_visit(size_t w, size_t h, size_t x, size_t y, FILTERING, uint8_t *m, size_t ml)
-KEEP(103, w, h, x, y, FILTERING_KEPT, at(m), ml)
-uint32_t deblock_strengths(size_t w, size_t h, size_t x, size_t y, uint8_t t8, DERIVING)
-KEEP(104, w, h, x, y, t8, DERIVING_KEPT)
-uint32_t deblock_strengths_flags(size_t w, size_t h, size_t x, size_t y, uint8_t flat, uint8_t uniform,
-                                 uint8_t t8, DERIVING)
-KEEP(105, w, h, x, y, flat, uniform, t8, DERIVING_KEPT)
-uint32_t deblock_strengths_kind(size_t w, size_t h, size_t x, size_t y, uint8_t kind, DERIVING)
-KEEP(106, w, h, x, y, kind, DERIVING_KEPT)
+uint32_t deblock_whole(size_t w, size_t h, uint8_t part, FILTERING)
+KEEP(101, w, h, part, FILTERING_KEPT)
+uint32_t deblock_rows(size_t w, size_t h, uint8_t part, size_t first, size_t last, FILTERING)
+KEEP(102, w, h, part, first, last, FILTERING_KEPT)
+uint32_t deblock_visit(size_t w, size_t h, uint8_t part, size_t x, size_t y, FILTERING, uint8_t *m, size_t ml)
+KEEP(103, w, h, part, x, y, FILTERING_KEPT, at(m), ml)
+uint32_t deblock_strengths(size_t w, size_t h, uint8_t field, size_t x, size_t y, uint8_t t8, DERIVING)
+KEEP(104, w, h, field, x, y, t8, DERIVING_KEPT)
+uint32_t deblock_strengths_flags(size_t w, size_t h, uint8_t field, size_t x, size_t y, uint8_t flat,
+                                 uint8_t uniform, uint8_t t8, DERIVING)
+KEEP(105, w, h, field, x, y, flat, uniform, t8, DERIVING_KEPT)
+uint32_t deblock_strengths_kind(size_t w, size_t h, uint8_t field, size_t x, size_t y, uint8_t kind, DERIVING)
+KEEP(106, w, h, field, x, y, kind, DERIVING_KEPT)
 
 /* EXPECT(what, answer, call, arguments..): what a call answers and hands on. */
 static void expect_handed(const char *what, uint32_t answer, uint32_t got, const size_t *want)
@@ -70,7 +70,7 @@ static void expect_handed(const char *what, uint32_t answer, uint32_t got, const
 static struct deblock_picture numbered_lengths(void)
 {
     struct deblock_picture p = DEBLOCK_NONE;
-    p.w = 1, p.h = 2, p.offset_a = 3, p.offset_b = 4, p.offset_chroma = 5;
+    p.w = 1, p.h = 2, p.part = 6, p.offset_a = 3, p.offset_b = 4, p.offset_chroma = 5;
     p.luma_len = 11, p.u_len = 12, p.v_len = 13, p.strengths_len = 14, p.qps_len = 15, p.t8s_len = 16;
     p.marks_len = 17;
     return p;
@@ -112,22 +112,36 @@ static void all_lent(void)
 {
     const struct deblock_picture p = numbered();
     const struct deblock_grids g = numbered_grids();
-    EXPECT("frame", 101, deblock_picture_frame(&p),
-           1, 2, 3, 4, 5, 31, 11, 32, 12, 33, 13, 34, 14, 35, 15, 36, 16);
+    EXPECT("whole", 101, deblock_picture_whole(&p),
+           1, 2, 6, 3, 4, 5, 31, 11, 32, 12, 33, 13, 34, 14, 35, 15, 36, 16);
     EXPECT("rows", 102, deblock_picture_rows(&p, 8, 9),
-           1, 2, 8, 9, 3, 4, 5, 31, 11, 32, 12, 33, 13, 34, 14, 35, 15, 36, 16);
+           1, 2, 6, 8, 9, 3, 4, 5, 31, 11, 32, 12, 33, 13, 34, 14, 35, 15, 36, 16);
     EXPECT("visit", 103, deblock_picture_visit(&p, 8, 9),
-           1, 2, 8, 9, 3, 4, 5, 31, 11, 32, 12, 33, 13, 34, 14, 35, 15, 36, 16, 37, 17);
+           1, 2, 6, 8, 9, 3, 4, 5, 31, 11, 32, 12, 33, 13, 34, 14, 35, 15, 36, 16, 37, 17);
     EXPECT("strengths", 104, deblock_picture_strengths(&p, &g, 8, 9, 7),
-           1, 2, 8, 9, 7, 41, 21, 42, 22, 43, 23, 44, 24, 45, 25, 46, 26, 34, 14);
+           1, 2, 1, 8, 9, 7, 41, 21, 42, 22, 43, 23, 44, 24, 45, 25, 46, 26, 34, 14);
     EXPECT("kind", 106, deblock_picture_strengths_kind(&p, &g, 8, 9, 7),
-           1, 2, 8, 9, 7, 41, 21, 42, 22, 43, 23, 44, 24, 45, 25, 46, 26, 34, 14);
+           1, 2, 1, 8, 9, 7, 41, 21, 42, 22, 43, 23, 44, 24, 45, 25, 46, 26, 34, 14);
     EXPECT("flat", 105, deblock_picture_strengths_flags(&p, &g, 8, 9, DEBLOCK_FLAT),
-           1, 2, 8, 9, 1, 0, 0, 41, 21, 42, 22, 43, 23, 44, 24, 45, 25, 46, 26, 34, 14);
+           1, 2, 1, 8, 9, 1, 0, 0, 41, 21, 42, 22, 43, 23, 44, 24, 45, 25, 46, 26, 34, 14);
     EXPECT("uniform", 105, deblock_picture_strengths_flags(&p, &g, 8, 9, DEBLOCK_UNIFORM),
-           1, 2, 8, 9, 0, 1, 0, 41, 21, 42, 22, 43, 23, 44, 24, 45, 25, 46, 26, 34, 14);
+           1, 2, 1, 8, 9, 0, 1, 0, 41, 21, 42, 22, 43, 23, 44, 24, 45, 25, 46, 26, 34, 14);
     EXPECT("8x8", 105, deblock_picture_strengths_flags(&p, &g, 8, 9, DEBLOCK_T8),
-           1, 2, 8, 9, 0, 0, 1, 41, 21, 42, 22, 43, 23, 44, 24, 45, 25, 46, 26, 34, 14);
+           1, 2, 1, 8, 9, 0, 0, 1, 41, 21, 42, 22, 43, 23, 44, 24, 45, 25, 46, 26, 34, 14);
+}
+
+/* To the strength calls all parts but the frame are a field. */
+static void parts(void)
+{
+    struct deblock_picture p = numbered_lengths();
+    static const struct deblock_grids g = DEBLOCK_NONE;
+    for (p.part = DEBLOCK_FRAME; p.part <= DEBLOCK_BOTTOM_FIELD; p.part++) {
+        const size_t field = p.part != DEBLOCK_FRAME;
+        EXPECT("a part", 101, deblock_picture_whole(&p), 1, 2, p.part, 3, 4, 5);
+        EXPECT("field", 104, deblock_picture_strengths(&p, &g, 8, 9, 7), 1, 2, field, 8, 9, 7);
+        EXPECT("field by kind", 106, deblock_picture_strengths_kind(&p, &g, 8, 9, 7), 1, 2, field, 8, 9, 7);
+        EXPECT("field by flags", 105, deblock_picture_strengths_flags(&p, &g, 8, 9, 0), 1, 2, field, 8, 9);
+    }
 }
 
 /* Where a pointer is null, another goes on with length 0. */
@@ -136,9 +150,9 @@ static void all_null(void)
     static const struct deblock_grids none = DEBLOCK_NONE;
     const struct deblock_picture p = numbered_lengths();
     const struct deblock_grids g = numbered_grid_lengths();
-    EXPECT("null members", 103, deblock_picture_visit(&p, 8, 9), 1, 2, 8, 9, 3, 4, 5);
-    EXPECT("null grids", 104, deblock_picture_strengths(&p, &g, 8, 9, 7), 1, 2, 8, 9, 7);
-    EXPECT("no grids", 104, deblock_picture_strengths(&p, &none, 8, 9, 7), 1, 2, 8, 9, 7);
+    EXPECT("null members", 103, deblock_picture_visit(&p, 8, 9), 1, 2, 6, 8, 9, 3, 4, 5);
+    EXPECT("null grids", 104, deblock_picture_strengths(&p, &g, 8, 9, 7), 1, 2, 1, 8, 9, 7);
+    EXPECT("no grids", 104, deblock_picture_strengths(&p, &none, 8, 9, 7), 1, 2, 1, 8, 9, 7);
 }
 
 /* t8s, ref1 and mv1 may be left out; with a length they may not, so something goes with them that may not. */
@@ -147,19 +161,20 @@ static void null_with_a_length(void)
     struct deblock_picture p = numbered();
     struct deblock_grids g = numbered_grids();
     p.t8s = NULL;
-    EXPECT("t8s", 101, deblock_picture_frame(&p), 1, 2, 3, 4, 5, 31, 11, 32, 12, 33, 13, 34, 14);
+    EXPECT("t8s", 101, deblock_picture_whole(&p), 1, 2, 6, 3, 4, 5, 31, 11, 32, 12, 33, 13, 34, 14);
     g.ref1 = NULL;
     EXPECT("ref1", 104, deblock_picture_strengths(&p, &g, 8, 9, 7),
-           1, 2, 8, 9, 7, 0, 0, 42, 22, 43, 23, 44, 24, 0, 0, 46, 26, 34, 14);
+           1, 2, 1, 8, 9, 7, 0, 0, 42, 22, 43, 23, 44, 24, 0, 0, 46, 26, 34, 14);
     g = numbered_grids();
     g.mv1 = NULL;
     EXPECT("mv1", 104, deblock_picture_strengths(&p, &g, 8, 9, 7),
-           1, 2, 8, 9, 7, 0, 0, 42, 22, 43, 23, 44, 24, 45, 25, 0, 0, 34, 14);
+           1, 2, 1, 8, 9, 7, 0, 0, 42, 22, 43, 23, 44, 24, 45, 25, 0, 0, 34, 14);
 }
 
 int main(void)
 {
     all_lent();
+    parts();
     all_null();
     null_with_a_length();
     return faults != 0;

@@ -6,7 +6,7 @@ static void expect_all(const char *what, uint32_t filtering, uint32_t deriving,
                        const struct deblock_picture *p, const struct deblock_grids *g)
 {
     decode();
-    expect(what, filtering, deblock_picture_frame(p));
+    expect(what, filtering, deblock_picture_whole(p));
     expect(what, filtering, deblock_picture_rows(p, 0, p->h));
     expect(what, filtering, deblock_picture_visit(p, 0, 0));
     expect(what, deriving, deblock_picture_strengths(p, g, 0, 0, 0));
@@ -27,7 +27,7 @@ static void not_lent(void)
     expect_all("no 8x8 flags and no list 1", DEBLOCK_DONE, DEBLOCK_DONE, &p, &g);
     p.marks = NULL;
     p.marks_len = 0;
-    expect("no marks", DEBLOCK_DONE, deblock_picture_frame(&p));
+    expect("no marks", DEBLOCK_DONE, deblock_picture_whole(&p));
     expect("no marks", DEBLOCK_MACROBLOCK_GRID_LENGTH, deblock_picture_visit(&p, 0, 0));
 }
 

@@ -3,11 +3,12 @@
 use std::{error, fmt};
 
 /// What a call answers, by the numbers of docs/RULES.md, "Answers". All but `Done` are refusals, and a
-/// refusal has changed nothing that was lent. It must be looked at:
+/// refusal has changed nothing that was lent. They stand in the order in which calls look for them, which is
+/// not that of their numbers: 19 comes between 2 and 3. An answer must be looked at:
 ///
 /// ```compile_fail
 /// #![deny(unused_must_use)]
-/// deblock::Picture::default().frame();
+/// deblock::Picture::default().whole();
 /// ```
 #[must_use = "a refused call has done nothing"]
 #[derive(Clone, Copy, PartialEq, Eq, Debug, PartialOrd, Ord)]
@@ -18,6 +19,8 @@ pub enum Answer {
     BadSize = 1,
     /// The macroblock is outside the picture, or the rows are not `start <= end <= h`.
     Outside = 2,
+    /// The part is none of frame, top field and bottom field, which a [`Picture`](crate::Picture) cannot say.
+    BadParity = 19,
     /// `luma`, `u` or `v` has the wrong length.
     PlaneLength = 3,
     /// `strengths`, `qps`, `t8s` or `marks` has the wrong length.
@@ -45,7 +48,7 @@ pub enum Answer {
 }
 
 /// Each answer with its sentence, in the order of the numbers.
-const WORDS: [(Answer, &str); 15] = [
+const WORDS: [(Answer, &str); 16] = [
     (Answer::Done, "done"),
     (Answer::BadSize, "width, height or their product is out of range"),
     (Answer::Outside, "the macroblock is outside the picture, or the rows are not first <= last <= h"),
@@ -61,19 +64,20 @@ const WORDS: [(Answer, &str); 15] = [
     (Answer::Untrue, "the kind or a set flag is not true of the grids"),
     (Answer::MarkedAlready, "the macroblock was visited before"),
     (Answer::NotReady, "its left, upper or upper right neighbour is not visited yet"),
+    (Answer::BadParity, "the part is not a frame, a top field or a bottom field"),
 ];
 
 impl Answer {
     /// The answer of number `n`. The archive is proved to give no other; one would mean that a different
     /// archive was linked, and there is no going on from that.
     pub(crate) fn of(n: u32) -> Answer {
-        match WORDS.get(n as usize) {
+        match WORDS.iter().find(|(answer, _)| answer.number() == n) {
             Some(&(answer, _)) => answer,
             None => panic!("the archive answered {n}, which is no answer of this version: is it the right archive?"),
         }
     }
 
-    /// The number that the archive answered, 0 to 14.
+    /// The number that the archive answered, 0 to 14 or 19.
     pub fn number(self) -> u32 {
         self as u32
     }
@@ -94,7 +98,8 @@ impl Answer {
 
 impl fmt::Display for Answer {
     fn fmt(&self, f: &mut fmt::Formatter) -> fmt::Result {
-        f.write_str(WORDS[*self as usize].1)
+        let (_, words) = WORDS.iter().find(|(answer, _)| answer == self).expect("every answer has words");
+        f.write_str(words)
     }
 }
 
@@ -106,9 +111,10 @@ mod tests {
 
     #[test]
     fn numbers_and_words_are_in_step() {
-        for (n, (answer, words)) in WORDS.iter().enumerate() {
-            assert_eq!((Answer::of(n as u32), answer.number() as usize), (*answer, n));
-            assert_eq!(answer.to_string(), *words);
+        let numbers: Vec<u32> = (0..=14).chain([19]).collect();
+        assert_eq!(WORDS.map(|(answer, _)| answer.number()), numbers[..]);
+        for (answer, words) in WORDS {
+            assert_eq!((Answer::of(answer.number()), answer.to_string().as_str()), (answer, words));
         }
     }
 

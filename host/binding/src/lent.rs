@@ -1,6 +1,7 @@
 //! What a call is told and lent beside the picture.
 
-/// Width and height of a picture in macroblocks: each 1 to 256, their product at most 36,864.
+/// Width and height of a picture, which is a frame or one field, in macroblocks: each 1 to 256, their product
+/// at most 36,864.
 #[derive(Clone, Copy, PartialEq, Eq, Debug, Default)]
 pub struct Size {
     /// Macroblocks in a row.
@@ -24,6 +25,18 @@ impl Size {
     pub fn places(self) -> impl Iterator<Item = Place> {
         (0..self.h).flat_map(move |y| (0..self.w).map(move |x| Place { x, y }))
     }
+}
+
+/// Which lines of the planes are the picture's; a line is a row of samples.
+#[derive(Clone, Copy, PartialEq, Eq, Debug, Default)]
+pub enum Part {
+    /// All lines.
+    #[default]
+    Frame = 0,
+    /// The even lines, counted from 0: parity 0.
+    TopField = 1,
+    /// The odd lines: parity 1.
+    BottomField = 2,
 }
 
 /// A macroblock's column and row, from 0.
@@ -81,8 +94,10 @@ pub struct Grids<'a> {
     /// Counts of luma coefficients; 16 a macroblock.
     pub nnz: &'a [u8],
     /// References in list 0 by the number of the picture, -1 for none, as in intra blocks; 16 a macroblock.
+    /// Where the picture is a field its references are fields, each with a number of its own.
     pub ref0: &'a [i8],
-    /// Motion in list 0 in quarter samples, x then y of each block; 32 a macroblock.
+    /// Motion in list 0 in quarter samples, in a field those of the field, x then y of each block; 32 a
+    /// macroblock.
     pub mv0: &'a [i16],
     /// References in list 1.
     pub ref1: &'a [i8],

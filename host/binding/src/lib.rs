@@ -96,8 +96,43 @@
 //! assert!(waiting.is_empty());
 //!
 //! picture.luma = &mut whole;
-//! picture.frame().ok()?;
+//! picture.whole().ok()?;
 //! assert!(by_visits == whole);
+//! # Ok::<(), Answer>(())
+//! ```
+//!
+//! # Fields
+//!
+//! A field is a picture of its own on every second line of the frame's planes. `size` is that of the field,
+//! so the planes, which are the frame's, have twice the usual lengths; strengths, QPs, flags and marks are
+//! lent per field, and in its grids a reference names a field. The two fields of a frame share planes and
+//! nothing else, so their macroblocks may arrive mixed.
+//!
+//! ```
+//! use deblock::{Answer, Part, Picture, Place, Size};
+//!
+//! struct Field {
+//!     part: Part,
+//!     strengths: Vec<u8>,
+//!     qps: Vec<u8>,
+//!     marks: Vec<u8>,
+//! }
+//!
+//! let size = Size { w: 1, h: 2 }; // of a field: the frame has 64 lines of 16 samples
+//! let n = size.macroblocks();
+//! let [mut luma, mut u, mut v] = [512 * n, 128 * n, 128 * n].map(|len| vec![90; len]);
+//! luma[32 * 16..].fill(96); // a step above line 32, which is line 16 of the top field
+//! let field = |part, qp| Field { part, strengths: vec![3; 32 * n], qps: vec![qp; n], marks: vec![0; n] };
+//! let mut fields = [field(Part::TopField, 40), field(Part::BottomField, 10)];
+//! for (f, y) in [(1, 0), (0, 0), (0, 1), (1, 1)] {
+//!     let Field { part, strengths, qps, marks } = &mut fields[f];
+//!     let (part, luma, u, v) = (*part, &mut luma, &mut u, &mut v);
+//!     let mut picture = Picture { size, part, luma, u, v, strengths, qps, marks, ..Picture::default() };
+//!     picture.visit(Place { x: 0, y }).ok()?;
+//! }
+//! let column: Vec<u8> = luma.chunks(16).map(|line| line[0]).collect();
+//! // the top field's lines 28, 30 | 32, 34 are smoothed; those of the bottom field, at QP 10, stay
+//! assert_eq!(column[28..36], [91, 90, 92, 90, 94, 96, 94, 96]);
 //! # Ok::<(), Answer>(())
 //! ```
 //!
@@ -128,5 +163,5 @@ mod picture;
 pub mod wire;
 
 pub use answer::Answer;
-pub use lent::{Flags, Grids, Kind, Offsets, Place, Size};
+pub use lent::{Flags, Grids, Kind, Offsets, Part, Place, Size};
 pub use picture::Picture;

@@ -1,6 +1,6 @@
 //! A picture and the six calls on it.
 
-use crate::{wire, Answer, Flags, Grids, Kind, Offsets, Place, Size};
+use crate::{wire, Answer, Flags, Grids, Kind, Offsets, Part, Place, Size};
 use std::ops::Range;
 
 /// What stays the same throughout a picture, and the memory that its calls are lent.
@@ -10,21 +10,26 @@ use std::ops::Range;
 /// stays good when a later version adds a member; where all are set, clippy's `needless_update` is to be
 /// allowed.
 ///
-/// Between the visits of a picture its size and offsets stay, and the calls alone write marks. What belongs
-/// to a macroblock, its samples, QP, flag and strengths, may be written until its own visit and not after it.
-/// Before that let QPs, flags and strengths be 0: a visit also looks at QPs to the left and above. To write
-/// them the caller drops the `Picture`, which is only borrows, and makes another over the same buffers.
+/// Between the visits of a picture its size, part and offsets stay, and the calls alone write marks. What
+/// belongs to a macroblock, its samples, QP, flag and strengths, may be written until its own visit and not
+/// after it. Before that let QPs, flags and strengths be 0: a visit also looks at QPs to the left and above.
+/// To write them the caller drops the `Picture`, which is only borrows, and makes another over the same
+/// buffers.
 ///
 /// Lengths are checked by each call, and a wrong one is refused; with n macroblocks they are as said below.
 #[derive(Debug, Default)]
 pub struct Picture<'a> {
-    /// Width and height in macroblocks.
+    /// Width and height in macroblocks, of a field those of the field.
     pub size: Size,
+    /// Frame, top field or bottom field. The two fields of a frame are two pictures, which are lent the same
+    /// planes, one after the other, and each its own strengths, QPs, flags and marks.
+    pub part: Part,
     /// The offsets that filtering adds.
     pub offsets: Offsets,
-    /// 256 n samples in rows of 16 * W, which filtering writes.
+    /// 256 n samples in lines of 16 * W, which filtering writes. A field is lent its frame's, 512 n; every
+    /// second line is read and written.
     pub luma: &'a mut [u8],
-    /// 64 n samples in rows of 8 * W, which filtering writes.
+    /// 64 n samples in lines of 8 * W, for a field 128 n, which filtering writes.
     pub u: &'a mut [u8],
     /// The same for V.
     pub v: &'a mut [u8],
@@ -40,39 +45,43 @@ pub struct Picture<'a> {
 
 impl Picture<'_> {
     /// Filters the whole picture, once: it neither reads nor sets marks, and called again it filters again.
-    pub fn frame(&mut self) -> Answer {
-        Answer::of(wire::frame(self))
+    pub fn whole(&mut self) -> Answer {
+        Answer::of(wire::whole(self, self.part as u8))
     }
 
     /// Filters the macroblock rows from `rows.start` on and before `rows.end`. Each row is filtered once,
-    /// from the top; that gives the planes of [`Picture::frame`], and another order may not. No mark is read
+    /// from the top; that gives the planes of [`Picture::whole`], and another order may not. No mark is read
     /// or set.
     pub fn rows(&mut self, rows: Range<usize>) -> Answer {
-        Answer::of(wire::rows(self, rows.start, rows.end))
+        Answer::of(wire::rows(self, self.part as u8, rows.start, rows.end))
     }
 
     /// Filters one macroblock and sets its mark, once its left, upper and upper right neighbours are marked;
     /// until then it answers [`Answer::NotReady`].
     pub fn visit(&mut self, at: Place) -> Answer {
-        Answer::of(wire::visit(self, at))
+        Answer::of(wire::visit(self, self.part as u8, at))
     }
 
     /// Writes the 32 strengths of a macroblock of which nothing is known but whether its transform is 8x8. It
     /// reads the grids of the macroblock and the nearest blocks of its left and upper neighbours, so these
     /// have to be there: it cannot tell a block that has not arrived from one that has.
     pub fn derive(&mut self, grids: Grids, at: Place, t8: bool) -> Answer {
-        Answer::of(wire::strengths(self, grids, at, t8.into()))
+        Answer::of(wire::strengths(self, self.field(), grids, at, t8.into()))
     }
 
     /// The same for a macroblock that may be known to be flat or uniform.
     pub fn derive_by_flags(&mut self, grids: Grids, at: Place, flags: Flags) -> Answer {
         let flags = [flags.flat, flags.uniform, flags.t8].map(u8::from);
-        Answer::of(wire::strengths_flags(self, grids, at, flags))
+        Answer::of(wire::strengths_flags(self, self.field(), grids, at, flags))
     }
 
     /// The same for a macroblock whose kind is known.
     pub fn derive_by_kind(&mut self, grids: Grids, at: Place, kind: Kind) -> Answer {
-        Answer::of(wire::strengths_kind(self, grids, at, kind as u8))
+        Answer::of(wire::strengths_kind(self, self.field(), grids, at, kind as u8))
+    }
+
+    fn field(&self) -> u8 {
+        (self.part != Part::Frame).into()
     }
 }
 
@@ -114,6 +123,14 @@ mod tests {
             Step { luma, chroma: [vec![60; 64], vec![60; 64]], strengths }
         }
 
+        /// The same in the lines of one parity; the others hold 200.
+        fn of_field(parity: usize) -> Step {
+            let Step { luma, strengths, .. } = Step::new();
+            let other = [200; 16];
+            let lines = luma.chunks(16).flat_map(|own| if parity == 0 { [own, &other] } else { [&other, own] });
+            Step { luma: lines.flatten().copied().collect(), chroma: [vec![60; 128], vec![60; 128]], strengths }
+        }
+
         fn lent<'a>(&'a mut self, qps: &'a [u8]) -> Picture<'a> {
             let Step { luma, chroma: [u, v], strengths } = self;
             Picture { size: Size { w: 1, h: 1 }, luma, u, v, strengths, qps, ..Picture::default() }
@@ -127,13 +144,30 @@ mod tests {
     /// docs/RULES.md, P4, through whole pictures and row ranges, at QP 30.
     #[test]
     fn a_strong_edge() {
-        for ask in [|p: &mut Picture| p.frame(), |p: &mut Picture| p.rows(0..1)] {
+        for ask in [|p: &mut Picture| p.whole(), |p: &mut Picture| p.rows(0..1)] {
             let mut step = Step::new();
             assert!(ask(&mut step.lent(&[30])).is_done() && step.is_filtered());
         }
         let mut step = Step::new();
-        assert_eq!(step.lent(&[52]).frame(), Answer::BadQp);
+        assert_eq!(step.lent(&[52]).whole(), Answer::BadQp);
         assert!(!step.is_filtered());
+    }
+
+    /// The same in every second line of a frame.
+    #[test]
+    fn a_strong_edge_in_a_field() {
+        let asks = [|p: &mut Picture| p.whole(), |p: &mut Picture| p.rows(0..1), |p: &mut Picture| p.visit(AT)];
+        for (part, parity) in [(Part::TopField, 0), (Part::BottomField, 1)] {
+            for ask in asks {
+                let mut step = Step::of_field(parity);
+                let mut p = Picture { part, marks: &mut [0], ..step.lent(&[30]) };
+                assert!(ask(&mut p).is_done());
+                assert!(step.luma.chunks(16).enumerate().all(|(line, samples)| match line % 2 == parity {
+                    true => samples[4..12] == [60, 60, 60, 63, 68, 70, 70, 70],
+                    false => samples == [200; 16],
+                }));
+            }
+        }
     }
 
     fn is_shared<T: Send + Sync>(_: &T) {}
@@ -144,7 +178,7 @@ mod tests {
         let (mut one, mut other) = (Step::new(), Step::new());
         std::thread::scope(|threads| {
             for mut picture in [one.lent(&[30]), other.lent(&[30])] {
-                threads.spawn(move || assert!(picture.frame().is_done()));
+                threads.spawn(move || assert!(picture.whole().is_done()));
             }
         });
         assert!(one.is_filtered() && other.is_filtered());
@@ -188,11 +222,33 @@ mod tests {
         assert_eq!([true, false].map(|t8| one(|p| p.derive(grids, AT, t8))), [middle, inside]);
     }
 
+    /// A macroblock under an intra one, whose lower half moves by 2 quarter samples: in a field the upper
+    /// edge gets 3 and not 4, and the vectors are far.
+    #[test]
+    fn fields_have_strengths_of_their_own() {
+        let inter: Vec<u8> = (0..32).map(|block| block / 16).collect();
+        let mv0: Vec<i16> = (0..32).flat_map(|block| [0, block / 24 * 2]).collect();
+        let grids = Grids { inter: &inter, nnz: &[0; 32], ref0: &[0; 32], mv0: &mv0, ..Grids::default() };
+        let at = Place { x: 0, y: 1 };
+        for (part, upper, middle) in [(Part::Frame, 4, 0), (Part::TopField, 3, 1), (Part::BottomField, 3, 1)] {
+            for call in 0..3 {
+                let strengths = &mut [9; 64];
+                let mut p = Picture { size: Size { w: 1, h: 2 }, part, strengths, ..Picture::default() };
+                let answer = match call {
+                    0 => p.derive(grids, at, false),
+                    1 => p.derive_by_flags(grids, at, Flags::default()),
+                    _ => p.derive_by_kind(grids, at, Kind::Inter),
+                };
+                assert_eq!((answer, p.strengths[48], p.strengths[56]), (Answer::Done, upper, middle));
+            }
+        }
+    }
+
     #[test]
     fn nothing_lent_is_refused() {
-        assert_eq!(Picture::default().frame(), Answer::BadSize);
+        assert_eq!(Picture::default().whole(), Answer::BadSize);
         let mut p = Picture { size: Size { w: 1, h: 1 }, ..Picture::default() };
-        assert_eq!([p.frame(), p.derive(Grids::default(), AT, false)], {
+        assert_eq!([p.whole(), p.derive(Grids::default(), AT, false)], {
             [Answer::PlaneLength, Answer::MacroblockGridLength]
         });
     }

@@ -1,5 +1,10 @@
 //! The six calls as the archive has them: numbers in, a number out (docs/RULES.md, "Answers"). For a caller
-//! who must pass on a kind or a flag as the byte that it is; [`Picture`] has the same calls with types.
+//! who must pass on a part, a kind or a flag as the byte that it is; [`Picture`] has the same calls with
+//! types.
+//!
+//! `part` is 0 for a frame, 1 for the top field and 2 for the bottom field; any other byte is refused.
+//! `field` is 0 for a frame, and any other byte means a field. The member `part` of a `Picture` is not read
+//! here.
 //!
 //! What a caller in another language must keep stands in include/deblock.h. Here Rust's borrows keep all of
 //! it: a slice is valid for its length, aligned, and not null even where it is empty; what is borrowed
@@ -10,40 +15,40 @@ use crate::{Grids, Picture, Place};
 mod c {
     extern "C" {
         pub fn deblock_strengths_kind(
-            w: usize, h: usize, x: usize, y: usize, kind: u8,
+            w: usize, h: usize, field: u8, x: usize, y: usize, kind: u8,
             inter: *const u8, inter_len: usize, nnz: *const u8, nnz_len: usize,
             ref0: *const i8, ref0_len: usize, mv0: *const i16, mv0_len: usize,
             ref1: *const i8, ref1_len: usize, mv1: *const i16, mv1_len: usize,
             strengths: *mut u8, strengths_len: usize,
         ) -> u32;
         pub fn deblock_strengths_flags(
-            w: usize, h: usize, x: usize, y: usize, flat: u8, uniform: u8, t8: u8,
+            w: usize, h: usize, field: u8, x: usize, y: usize, flat: u8, uniform: u8, t8: u8,
             inter: *const u8, inter_len: usize, nnz: *const u8, nnz_len: usize,
             ref0: *const i8, ref0_len: usize, mv0: *const i16, mv0_len: usize,
             ref1: *const i8, ref1_len: usize, mv1: *const i16, mv1_len: usize,
             strengths: *mut u8, strengths_len: usize,
         ) -> u32;
         pub fn deblock_strengths(
-            w: usize, h: usize, x: usize, y: usize, t8: u8,
+            w: usize, h: usize, field: u8, x: usize, y: usize, t8: u8,
             inter: *const u8, inter_len: usize, nnz: *const u8, nnz_len: usize,
             ref0: *const i8, ref0_len: usize, mv0: *const i16, mv0_len: usize,
             ref1: *const i8, ref1_len: usize, mv1: *const i16, mv1_len: usize,
             strengths: *mut u8, strengths_len: usize,
         ) -> u32;
-        pub fn deblock_frame(
-            w: usize, h: usize, a: i32, b: i32, chroma: i32,
+        pub fn deblock_whole(
+            w: usize, h: usize, part: u8, a: i32, b: i32, chroma: i32,
             luma: *mut u8, luma_len: usize, u: *mut u8, u_len: usize, v: *mut u8, v_len: usize,
             strengths: *const u8, strengths_len: usize, qps: *const u8, qps_len: usize,
             t8s: *const u8, t8s_len: usize,
         ) -> u32;
         pub fn deblock_rows(
-            w: usize, h: usize, first: usize, last: usize, a: i32, b: i32, chroma: i32,
+            w: usize, h: usize, part: u8, first: usize, last: usize, a: i32, b: i32, chroma: i32,
             luma: *mut u8, luma_len: usize, u: *mut u8, u_len: usize, v: *mut u8, v_len: usize,
             strengths: *const u8, strengths_len: usize, qps: *const u8, qps_len: usize,
             t8s: *const u8, t8s_len: usize,
         ) -> u32;
         pub fn deblock_visit(
-            w: usize, h: usize, x: usize, y: usize, a: i32, b: i32, chroma: i32,
+            w: usize, h: usize, part: u8, x: usize, y: usize, a: i32, b: i32, chroma: i32,
             luma: *mut u8, luma_len: usize, u: *mut u8, u_len: usize, v: *mut u8, v_len: usize,
             strengths: *const u8, strengths_len: usize, qps: *const u8, qps_len: usize,
             t8s: *const u8, t8s_len: usize, marks: *mut u8, marks_len: usize,
@@ -52,11 +57,11 @@ mod c {
 }
 
 /// Strengths of a macroblock by kind: 0 intra, 1 skip, 2 inter uniform, 3 inter; any other byte is refused.
-pub fn strengths_kind(p: &mut Picture, g: Grids, at: Place, kind: u8) -> u32 {
+pub fn strengths_kind(p: &mut Picture, field: u8, g: Grids, at: Place, kind: u8) -> u32 {
     // SAFETY: every pointer and length is a slice's, and what is written is borrowed by nobody else.
     unsafe {
         c::deblock_strengths_kind(
-            p.size.w, p.size.h, at.x, at.y, kind,
+            p.size.w, p.size.h, field, at.x, at.y, kind,
             g.inter.as_ptr(), g.inter.len(), g.nnz.as_ptr(), g.nnz.len(),
             g.ref0.as_ptr(), g.ref0.len(), g.mv0.as_ptr(), g.mv0.len(),
             g.ref1.as_ptr(), g.ref1.len(), g.mv1.as_ptr(), g.mv1.len(),
@@ -66,11 +71,11 @@ pub fn strengths_kind(p: &mut Picture, g: Grids, at: Place, kind: u8) -> u32 {
 }
 
 /// Strengths of a macroblock with the flags flat, uniform and 8x8, each set unless 0.
-pub fn strengths_flags(p: &mut Picture, g: Grids, at: Place, [flat, uniform, t8]: [u8; 3]) -> u32 {
+pub fn strengths_flags(p: &mut Picture, field: u8, g: Grids, at: Place, [flat, uniform, t8]: [u8; 3]) -> u32 {
     // SAFETY: as above.
     unsafe {
         c::deblock_strengths_flags(
-            p.size.w, p.size.h, at.x, at.y, flat, uniform, t8,
+            p.size.w, p.size.h, field, at.x, at.y, flat, uniform, t8,
             g.inter.as_ptr(), g.inter.len(), g.nnz.as_ptr(), g.nnz.len(),
             g.ref0.as_ptr(), g.ref0.len(), g.mv0.as_ptr(), g.mv0.len(),
             g.ref1.as_ptr(), g.ref1.len(), g.mv1.as_ptr(), g.mv1.len(),
@@ -80,11 +85,11 @@ pub fn strengths_flags(p: &mut Picture, g: Grids, at: Place, [flat, uniform, t8]
 }
 
 /// Strengths of a macroblock from the grids and the 8x8 flag alone, which is set unless 0.
-pub fn strengths(p: &mut Picture, g: Grids, at: Place, t8: u8) -> u32 {
+pub fn strengths(p: &mut Picture, field: u8, g: Grids, at: Place, t8: u8) -> u32 {
     // SAFETY: as above.
     unsafe {
         c::deblock_strengths(
-            p.size.w, p.size.h, at.x, at.y, t8,
+            p.size.w, p.size.h, field, at.x, at.y, t8,
             g.inter.as_ptr(), g.inter.len(), g.nnz.as_ptr(), g.nnz.len(),
             g.ref0.as_ptr(), g.ref0.len(), g.mv0.as_ptr(), g.mv0.len(),
             g.ref1.as_ptr(), g.ref1.len(), g.mv1.as_ptr(), g.mv1.len(),
@@ -94,11 +99,11 @@ pub fn strengths(p: &mut Picture, g: Grids, at: Place, t8: u8) -> u32 {
 }
 
 /// Filters the whole picture.
-pub fn frame(p: &mut Picture) -> u32 {
+pub fn whole(p: &mut Picture, part: u8) -> u32 {
     // SAFETY: as above; the three planes are borrowed apart from each other.
     unsafe {
-        c::deblock_frame(
-            p.size.w, p.size.h, p.offsets.a, p.offsets.b, p.offsets.chroma,
+        c::deblock_whole(
+            p.size.w, p.size.h, part, p.offsets.a, p.offsets.b, p.offsets.chroma,
             p.luma.as_mut_ptr(), p.luma.len(), p.u.as_mut_ptr(), p.u.len(), p.v.as_mut_ptr(), p.v.len(),
             p.strengths.as_ptr(), p.strengths.len(), p.qps.as_ptr(), p.qps.len(), p.t8s.as_ptr(), p.t8s.len(),
         )
@@ -106,11 +111,11 @@ pub fn frame(p: &mut Picture) -> u32 {
 }
 
 /// Filters the macroblock rows from `first` on and before `last`.
-pub fn rows(p: &mut Picture, first: usize, last: usize) -> u32 {
+pub fn rows(p: &mut Picture, part: u8, first: usize, last: usize) -> u32 {
     // SAFETY: as above.
     unsafe {
         c::deblock_rows(
-            p.size.w, p.size.h, first, last, p.offsets.a, p.offsets.b, p.offsets.chroma,
+            p.size.w, p.size.h, part, first, last, p.offsets.a, p.offsets.b, p.offsets.chroma,
             p.luma.as_mut_ptr(), p.luma.len(), p.u.as_mut_ptr(), p.u.len(), p.v.as_mut_ptr(), p.v.len(),
             p.strengths.as_ptr(), p.strengths.len(), p.qps.as_ptr(), p.qps.len(), p.t8s.as_ptr(), p.t8s.len(),
         )
@@ -118,14 +123,32 @@ pub fn rows(p: &mut Picture, first: usize, last: usize) -> u32 {
 }
 
 /// Filters a macroblock, if it is ready, and marks it.
-pub fn visit(p: &mut Picture, at: Place) -> u32 {
+pub fn visit(p: &mut Picture, part: u8, at: Place) -> u32 {
     // SAFETY: as above; the marks are borrowed apart from the planes.
     unsafe {
         c::deblock_visit(
-            p.size.w, p.size.h, at.x, at.y, p.offsets.a, p.offsets.b, p.offsets.chroma,
+            p.size.w, p.size.h, part, at.x, at.y, p.offsets.a, p.offsets.b, p.offsets.chroma,
             p.luma.as_mut_ptr(), p.luma.len(), p.u.as_mut_ptr(), p.u.len(), p.v.as_mut_ptr(), p.v.len(),
             p.strengths.as_ptr(), p.strengths.len(), p.qps.as_ptr(), p.qps.len(), p.t8s.as_ptr(), p.t8s.len(),
             p.marks.as_mut_ptr(), p.marks.len(),
         )
+    }
+}
+
+#[cfg(test)]
+mod tests {
+    use super::*;
+    use crate::Size;
+
+    /// A part above 2 is refused with 19: before the planes' lengths, and after a place outside.
+    #[test]
+    fn no_other_part() {
+        let p = &mut Picture { size: Size { w: 1, h: 1 }, ..Picture::default() };
+        let (inside, outside) = (Place { x: 0, y: 0 }, Place { x: 1, y: 0 });
+        for part in 0..=255 {
+            let answer = if part > 2 { 19 } else { 3 };
+            assert_eq!([whole(p, part), rows(p, part, 0, 0), visit(p, part, inside)], [answer; 3]);
+            assert_eq!([rows(p, part, 0, 2), visit(p, part, outside)], [2; 2]);
+        }
     }
 }

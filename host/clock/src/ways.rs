@@ -2,7 +2,7 @@
 
 use crate::cpu_time::seconds;
 use crate::picture::{Picture, H, W};
-use deblock::{Place, Size};
+use deblock::{Part, Place, Size};
 
 const SIZE: Size = Size { w: W, h: H };
 
@@ -16,22 +16,26 @@ pub enum Way {
     Raster,
     /// .. and by diagonals on which all are ready at once.
     Wavefront,
+    /// The archive's whole-picture call on each field of a frame of the same samples, which gives other
+    /// samples. The top field has the upper half's strengths, QPs and flags, the bottom field the lower's.
+    Fields,
 }
 
 impl Way {
-    pub const ALL: [Way; 4] = [Way::Original, Way::Whole, Way::Raster, Way::Wavefront];
+    pub const ALL: [Way; 5] = [Way::Original, Way::Whole, Way::Raster, Way::Wavefront, Way::Fields];
 
     /// The seconds that filtering takes. What it needs beside the planes is made before the clock starts.
     pub fn seconds(self, picture: &Picture, planes: &mut [Vec<u8>; 3]) -> f64 {
         match self {
             Way::Original => original(picture, planes),
-            Way::Whole => archive(picture, planes, |lent| assert!(lent.frame().is_done())),
+            Way::Whole => archive(picture, planes, |lent| assert!(lent.whole().is_done())),
             Way::Raster => visits(picture, planes, SIZE.places().collect()),
             Way::Wavefront => {
                 let mut order: Vec<Place> = SIZE.places().collect();
                 order.sort_by_key(|p| p.x + 2 * p.y);
                 visits(picture, planes, order)
             }
+            Way::Fields => fields(picture, planes),
         }
     }
 }
@@ -44,6 +48,19 @@ fn original(picture: &Picture, [luma, u, v]: &mut [Vec<u8>; 3]) -> f64 {
 
 fn visits(picture: &Picture, planes: &mut [Vec<u8>; 3], order: Vec<Place>) -> f64 {
     archive(picture, planes, |lent| order.iter().for_each(|&at| assert!(lent.visit(at).is_done())))
+}
+
+fn fields(picture: &Picture, [luma, u, v]: &mut [Vec<u8>; 3]) -> f64 {
+    let size = Size { h: H / 2, ..SIZE };
+    let n = size.macroblocks();
+    let mut strengths = picture.strengths.clone();
+    let halves = strengths.chunks_mut(32 * n).zip(picture.qps.chunks(n).zip(picture.t8s.chunks(n)));
+    timed(|| {
+        for (part, (strengths, (qps, t8s))) in [Part::TopField, Part::BottomField].into_iter().zip(halves) {
+            let mut lent = deblock::Picture { size, part, luma, u, v, strengths, qps, t8s, ..Default::default() };
+            assert!(lent.whole().is_done());
+        }
+    })
 }
 
 fn archive(picture: &Picture, [luma, u, v]: &mut [Vec<u8>; 3], work: impl FnOnce(&mut deblock::Picture)) -> f64 {

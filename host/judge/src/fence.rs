@@ -30,19 +30,19 @@ pub enum Side {
 }
 
 /// Room for one buffer, fenced on both sides. It is kept until the program ends.
-pub struct Field {
+pub struct Fenced {
     room: *mut u8,
 }
 
-impl Field {
-    pub fn new() -> Field {
+impl Fenced {
+    pub fn new() -> Fenced {
         // SAFETY: fresh memory of our own, of which the middle is opened; both calls are checked.
         unsafe {
             let all = mmap(std::ptr::null_mut(), ROOM + 2 * PAGE, NONE, PRIVATE_ANONYMOUS, -1, 0).cast::<u8>();
             assert!(all as isize != -1, "the system gave no memory");
             let room = all.add(PAGE);
             assert_eq!(mprotect(room.cast(), ROOM, READ_WRITE), 0, "the system opened no memory");
-            Field { room }
+            Fenced { room }
         }
     }
 
@@ -99,17 +99,17 @@ mod tests {
 
     #[test]
     fn a_loan_comes_back_and_is_fenced() {
-        let mut field = Field::new();
+        let mut fenced = Fenced::new();
         for side in [None, Some(Side::Start), Some(Side::End)] {
             let mut b: Buffer<i16> = vec![1, 2, 3].into();
-            let mut loan = field.lend(&mut b, side);
+            let mut loan = fenced.lend(&mut b, side);
             assert_eq!(loan[..], [1, 2, 3]);
             loan[2] = -7;
             drop(loan);
             assert_eq!(b[..], [1, 2, -7]);
         }
         // the last byte of the room is ours, the next one nobody's
-        let end = field.room as usize + ROOM;
+        let end = fenced.room as usize + ROOM;
         let maps = std::fs::read_to_string("/proc/self/maps").expect("Linux has it");
         let rights = |at: usize| {
             let holds = |line: &&str| {
@@ -121,6 +121,6 @@ mod tests {
         };
         assert_eq!([rights(end - 1), rights(end), rights(end - ROOM - 1)], ["rw-p", "---p", "---p"]);
         let mut empty: Buffer<u8> = Vec::new().into();
-        assert!(field.lend(&mut empty, Some(Side::End)).is_empty());
+        assert!(fenced.lend(&mut empty, Some(Side::End)).is_empty());
     }
 }

@@ -1,4 +1,5 @@
-//! Compares the proved archive with the Rust original, every answer and every lent byte.
+//! Compares the proved archive with the Rust original, in fields with a model, every answer and every lent
+//! byte.
 
 mod arrivals;
 mod differences;
@@ -9,7 +10,10 @@ mod make;
 mod mistakes;
 mod model;
 mod model_lines;
+mod model_numbers;
 mod model_strengths;
+mod model_thresholds;
+mod original;
 mod record;
 mod refusals;
 mod request;
@@ -17,17 +21,21 @@ mod rounds;
 mod session;
 mod shrink;
 mod small;
+mod small_fields;
 mod subject;
 mod table;
+mod unread;
 mod visits;
 
+use request::Structure;
 use rounds::Depth;
 use session::Session;
 use std::process::ExitCode;
 use std::time::{Duration, Instant};
 use subject::Archive;
 
-const HELP: &str = "judge: compares the proved archive with the Rust original, every answer and every lent byte
+const HELP: &str = "judge: compares the proved archive with the Rust original, every answer and every lent byte,
+and in fields, which the original does not have, with a model of the rules that agrees with the original
 
   judge bounded [SEED]       all small cases, then 80 rounds of random ones: about a minute
   judge long SECONDS [SEED]  all small cases, then rounds until the time is over
@@ -95,7 +103,7 @@ fn compare(seed: u64, goes_on: impl Fn(u64, Duration) -> bool) -> Option<bool> {
         println!("MISMATCH in the small cases\n{failure}");
         return Some(false);
     }
-    println!("small cases: {} calls, {:.1} s", s.calls(), took());
+    println!("small cases: {}, {:.1} s", calls(&s), took());
     let mut round = 0;
     let mut said = start;
     while goes_on(round, start.elapsed()) {
@@ -105,16 +113,22 @@ fn compare(seed: u64, goes_on: impl Fn(u64, Duration) -> bool) -> Option<bool> {
         round += 1;
         if said.elapsed() > Duration::from_secs(60) {
             said = Instant::now();
-            println!("{round} rounds: {} calls, {:.0} s", s.calls(), took());
+            println!("{round} rounds: {}, {:.0} s", calls(&s), took());
         }
     }
     s.print();
-    println!("{} calls equal in {:.1} s, {round} rounds of seeds from {seed} on", s.calls(), took());
-    let unseen: Vec<usize> = (0..15).filter(|&i| s.numbers()[i] == 0).collect();
+    println!("{} equal in {:.1} s, {round} rounds of seeds from {seed} on", calls(&s), took());
+    let unseen: Vec<u32> = table::numbers().filter(|&number| s.answered(number) == 0).collect();
     if !unseen.is_empty() {
         println!("but no call answered {unseen:?}: the run is too short to say anything of them");
     }
     Some(unseen.is_empty())
+}
+
+/// How many were compared.
+fn calls(s: &Session) -> String {
+    let [frames, fields] = [Structure::Frame, Structure::Field].map(|of| s.calls(of));
+    format!("{} calls ({frames} about frames, {fields} about fields)", frames + fields)
 }
 
 fn replay(seed: u64) -> Option<bool> {

@@ -1,7 +1,7 @@
 //! Random requests to which no refusal applies (a visit or an untrue kind may still be refused, as the table
 //! says).
 
-use crate::request::{Call, Request};
+use crate::request::{Call, Request, Structure};
 use inputs::{strengths, texture, Content, Rng, Texture};
 
 /// A size of at most `area` macroblocks; long thin pictures come up often.
@@ -18,16 +18,15 @@ pub fn size(r: &mut Rng, area: usize) -> (usize, usize) {
 }
 
 /// A filtering call on a picture of any content, for random rows or a random macroblock.
-pub fn picture(r: &mut Rng, call: Call, w: usize, h: usize) -> Request {
+pub fn picture(r: &mut Rng, of: Structure, call: Call, w: usize, h: usize) -> Request {
     let n = w * h;
     let mut q = Request::new(call, w, h);
+    q.part = part(r, of, &[1, 2]);
     (q.x, q.y) = (r.below(w), r.below(h));
     q.first = r.below(h + 1);
     q.last = q.first + r.below(h - q.first + 1);
     let look = look(r);
-    q.luma = texture(r, 16 * w, 16 * h, look).into();
-    q.u = texture(r, 8 * w, 8 * h, look).into();
-    q.v = texture(r, 8 * w, 8 * h, look).into();
+    planes(r, of, &mut q, look);
     let content =
         r.pick(&[Content::Intra, Content::Mixed, Content::Still, Content::Wild, Content::Wild, Content::Wild]);
     q.strengths = strengths(r, n, content).into();
@@ -49,6 +48,26 @@ pub fn picture(r: &mut Rng, call: Call, w: usize, h: usize) -> Request {
         q.marks[at] = r.once_in(8) as u8;
     }
     q
+}
+
+/// 0 for a frame, one of these for a field.
+fn part(r: &mut Rng, of: Structure, fields: &[u8]) -> u8 {
+    match of {
+        Structure::Frame => 0,
+        Structure::Field => r.pick(fields),
+    }
+}
+
+/// Planes that look so. Of a field's frame the bottom field is the top one turned around.
+pub fn planes(r: &mut Rng, of: Structure, q: &mut Request, look: Texture) {
+    let mut plane = |side: usize| {
+        let line = side * q.w;
+        let own = texture(r, line, side * q.h, look);
+        let Structure::Field = of else { return own };
+        let turned: Vec<u8> = own.iter().rev().copied().collect();
+        own.chunks(line).zip(turned.chunks(line)).flat_map(|(top, bottom)| [top, bottom]).collect::<Vec<_>>().concat()
+    };
+    (q.luma, q.u, q.v) = (plane(16).into(), plane(8).into(), plane(8).into());
 }
 
 /// Flat, blocky, noisy and saturated planes.
@@ -77,9 +96,10 @@ fn qps(r: &mut Rng, n: usize) -> Vec<u8> {
 }
 
 /// A strength call on grids of mixed macroblocks, asked with what is true most of the time.
-pub fn grids(r: &mut Rng, call: Call, w: usize, h: usize) -> Request {
+pub fn grids(r: &mut Rng, of: Structure, call: Call, w: usize, h: usize) -> Request {
     let n = 16 * w * h;
     let mut q = Request::new(call, w, h);
+    q.part = part(r, of, &[1, 2, 128, 255]);
     let list_1 = r.once_in(2);
     q.inter = vec![0; n].into();
     q.nnz = vec![0; n].into();
@@ -89,7 +109,7 @@ pub fn grids(r: &mut Rng, call: Call, w: usize, h: usize) -> Request {
     q.mv1 = vec![0; if list_1 { 2 * n } else { 0 }].into();
     // what was there before is not read: any bytes will do
     q.strengths = (0..2 * n).map(|_| r.bits() as u8).collect::<Vec<u8>>().into();
-    let motions = Motions::new(r);
+    let motions = Motions::new(r, of);
     for m in 0..w * h {
         (q.x, q.y) = (m % w, m / w);
         macroblock(r, &mut q, &motions);
@@ -115,23 +135,23 @@ pub fn place(r: &mut Rng, q: &mut Request) {
 /// The references and vectors of a picture: few, so that equal and nearly equal ones meet.
 struct Motions {
     refs: Vec<i8>,
-    parts: Vec<i16>,
+    across: Vec<i16>,
+    down: Vec<i16>,
 }
 
 impl Motions {
-    fn new(r: &mut Rng) -> Motions {
+    fn new(r: &mut Rng, of: Structure) -> Motions {
         let base = r.pick(&[0, 0, 7, -100, i16::MAX - 4, i16::MIN + 4]);
-        let steps = [-4, -3, 0, 0, 0, 3, 4];
-        let mut parts: Vec<i16> = steps.iter().map(|s| base + s).collect();
-        if r.once_in(3) {
-            parts.extend([i16::MIN, i16::MAX, -1, 1, 32, -32]);
-        }
+        let further = if r.once_in(3) { &[i16::MIN, i16::MAX, -1, 1, 32, -32][..] } else { &[] };
+        let around = |steps: [i16; 7]| [&steps.map(|s| base + s)[..], further].concat();
+        let across = [-4, -3, 0, 0, 0, 3, 4];
+        let down = if of == Structure::Field { [-2, -1, 0, 0, 0, 1, 2] } else { across };
         let refs = r.pick(&[&[-1, 0][..], &[0, 1], &[-1, 0, 1], &[5, 7], &[-1, 0, 1, 63, 126, 127], &[-1]]);
-        Motions { refs: refs.to_vec(), parts }
+        Motions { refs: refs.to_vec(), across: around(across), down: around(down) }
     }
 
     fn block(&self, r: &mut Rng) -> (i8, i16, i16) {
-        (r.pick(&self.refs), r.pick(&self.parts), r.pick(&self.parts))
+        (r.pick(&self.refs), r.pick(&self.across), r.pick(&self.down))
     }
 }
 

@@ -66,6 +66,24 @@ mistakes! {
     OddOffsetRefused "odd offsets are refused"
     EmptyListOneRefused "empty list 1 grids are refused"
     FlatNeedsUniform "flat alone is refused"
+    FieldUpperFour "4 on the upper edge of a field's macroblock"
+    FieldLeftThree "3 on the left edge of a field's macroblock"
+    FieldFarFromFour "far from a difference of 4 on in a field too"
+    FieldFarAcross "far from a difference of 2 on across a field too"
+    FrameAsField "a frame gets the strengths of a field"
+    OneAloneIsField "of the bytes above 0 only 1 says field"
+    StrengthsAskPart "a strength call refuses a part above 2"
+    LinesNotDoubled "the lines of a field one after the other, as those of a frame"
+    ChromaNotDoubled "likewise in U and V alone"
+    NextLineOfFrame "across a horizontal edge of a field lies the next line of the frame"
+    PartsExchanged "top and bottom field exchanged"
+    OtherFieldTouched "one sample of the other field is changed"
+    MarksShared "the two fields share their marks"
+    PartBeforePlace "19 before 2"
+    PartAfterPlanes "19 after 3"
+    EmptyRangeUnasked "an empty row range does not ask 19"
+    SingleLengths "3 unless the planes are of the field's own size"
+    DoubledFrameTaken "a frame takes planes of twice the length"
 }
 
 /// Runs the faultless model, which must pass, and every wrong one, which must not. True if all is so.
@@ -74,7 +92,7 @@ pub fn run() -> bool {
         println!("the model without a mistake is not equal to the Rust original: the judge is at fault\n{failure}");
         return false;
     }
-    println!("the rules as a plain program, without a mistake: equal to the Rust original");
+    println!("the rules as a plain program: equal to the Rust original, in fields as far as that can be asked");
     let mut missed = 0;
     for (mistake, words) in MISTAKES {
         match trial(Some(*mistake)) {
@@ -93,7 +111,7 @@ pub fn run() -> bool {
 }
 
 fn trial(mistake: Option<Mistake>) -> Outcome {
-    let model = Model { mistake };
+    let model = Model::with(mistake);
     let mut s = Session::new(&model, mistake.is_none());
     (1..=8).try_for_each(|seed| rounds::round(&mut s, seed, Depth::Brief))?;
     small::run(&mut s, 16)

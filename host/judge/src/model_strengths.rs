@@ -22,7 +22,8 @@ impl Model {
                     let (bx, by) = if horizontal { (segment, edge) } else { (edge, segment) };
                     let q = (4 * r.y + by) * 4 * r.w + 4 * r.x + bx;
                     let p = if horizontal { q - 4 * r.w } else { q - 1 };
-                    own[16 * horizontal as usize + 4 * edge + segment] = self.strength(r, p, q, edge == 0);
+                    let four = edge == 0 && self.has_four(r, horizontal);
+                    own[16 * horizontal as usize + 4 * edge + segment] = self.strength(r, p, q, four);
                 }
             }
         }
@@ -36,16 +37,47 @@ impl Model {
         r.strengths[at..at + 32].copy_from_slice(&own);
     }
 
-    fn strength(&self, r: &Request, p: usize, q: usize, outer: bool) -> u8 {
-        let outer = outer && !self.has(Mistake::OuterIntraThree);
+    /// Whether the strength calls take the picture for a field.
+    fn is_field(&self, r: &Request) -> bool {
+        match self.mistake {
+            Some(Mistake::FrameAsField) => true,
+            Some(Mistake::OneAloneIsField) => r.part == 1,
+            _ => r.part != 0,
+        }
+    }
+
+    /// Whether outer edges of this direction get 4 beside an intra macroblock: in a field upper ones do not.
+    fn has_four(&self, r: &Request, horizontal: bool) -> bool {
+        match self.mistake {
+            Some(Mistake::OuterIntraThree) => false,
+            Some(Mistake::FieldUpperFour) => true,
+            Some(Mistake::FieldLeftThree) => !self.is_field(r),
+            _ => !(horizontal && self.is_field(r)),
+        }
+    }
+
+    /// The largest differences, across and down, that are not far. Down a field 2 quarter samples are 4 of
+    /// the frame.
+    fn reach(&self, r: &Request) -> [i32; 2] {
+        match self.mistake {
+            Some(Mistake::FarFromFive) => [4, 4],
+            Some(Mistake::FieldFarFromFour) => [3, 3],
+            Some(Mistake::FieldFarAcross) if self.is_field(r) => [1, 1],
+            _ if self.is_field(r) => [3, 1],
+            _ => [3, 3],
+        }
+    }
+
+    /// `four`: an intra block gives 4, not 3.
+    fn strength(&self, r: &Request, p: usize, q: usize, four: bool) -> u8 {
         if r.inter[p] == 0 || r.inter[q] == 0 {
-            return if outer { 4 } else { 3 };
+            return if four { 4 } else { 3 };
         }
         let counts = if self.has(Mistake::OwnCountAlone) { r.nnz[q] != 0 } else { r.nnz[p] != 0 || r.nnz[q] != 0 };
         if counts {
             return 2;
         }
-        self.differs(&self.used(r, p), &self.used(r, q)) as u8
+        self.differs(&self.used(r, p), &self.used(r, q), self.reach(r)) as u8
     }
 
     fn used(&self, r: &Request, i: usize) -> Used {
@@ -59,11 +91,11 @@ impl Model {
         used
     }
 
-    fn differs(&self, p: &Used, q: &Used) -> bool {
+    fn differs(&self, p: &Used, q: &Used, reach: [i32; 2]) -> bool {
         if p.len() != q.len() {
             return true;
         }
-        let matches = |a: &(i32, [i32; 2]), b: &(i32, [i32; 2])| a.0 == b.0 && self.near(a.1, b.1);
+        let matches = |a: &(i32, [i32; 2]), b: &(i32, [i32; 2])| a.0 == b.0 && self.near(a.1, b.1, reach);
         match (&p[..], &q[..]) {
             ([a], [b]) => !matches(a, b),
             ([a, b], [c, d]) => {
@@ -76,13 +108,12 @@ impl Model {
         }
     }
 
-    fn near(&self, a: [i32; 2], b: [i32; 2]) -> bool {
-        let limit = if self.has(Mistake::FarFromFive) { 4 } else { 3 };
+    fn near(&self, a: [i32; 2], b: [i32; 2], reach: [i32; 2]) -> bool {
         let far = |i: usize| {
             let d = a[i] - b[i];
             let d = if self.has(Mistake::VectorsWrap) { i32::from(d as i16) } else { d };
-            let d = if self.has(Mistake::FarOneSided) { d.max(-3) } else { d };
-            d < -limit || d > limit
+            let d = if self.has(Mistake::FarOneSided) { d.max(-reach[i]) } else { d };
+            d < -reach[i] || d > reach[i]
         };
         !far(0) && (self.has(Mistake::VerticalIgnored) || !far(1))
     }

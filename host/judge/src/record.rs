@@ -3,7 +3,7 @@
 
 use crate::expect::expect;
 use crate::make;
-use crate::request::{Call, Request};
+use crate::request::{Call, Request, Structure};
 use inputs::Rng;
 use std::io::Write;
 
@@ -19,12 +19,12 @@ pub fn run(out: &mut impl Write) -> bool {
 fn recording(seed: u64) -> Vec<u8> {
     let mut r = Rng::new(seed);
     let (w, h) = make::size(&mut r, AREA);
-    let before = make::picture(&mut r, Call::Frame, w, h);
+    let before = make::picture(&mut r, Structure::Frame, Call::Whole, w, h);
     // every third has strengths that no grids give, 4 on inner edges among them
     if seed.is_multiple_of(3) {
         return write(&before, None);
     }
-    let mut grids = make::grids(&mut r, Call::Flagless, w, h);
+    let mut grids = make::grids(&mut r, Structure::Frame, Call::Flagless, w, h);
     for m in 0..w * h {
         (grids.x, grids.y) = (m % w, m / w);
         grids.t8 = before.t8s.get(m).copied().unwrap_or(0);

@@ -1,7 +1,7 @@
 //! Damaged requests: every check alone and in pairs, in the order of the table of refusals.
 
 use crate::make;
-use crate::request::{Buffer, Call, Lent, Request, CALLS};
+use crate::request::{Buffer, Call, Lent, Request, Structure, CALLS};
 use crate::session::{Outcome, Session};
 use inputs::Rng;
 
@@ -31,7 +31,7 @@ const DAMAGES: [(u32, Damage); 25] = [
         let value = r.pick(&[2, 3, 128, 255]);
         match q.call {
             Call::Visit if r.once_in(2) => spoil_near(r, q, |q| &mut q.marks, value),
-            Call::Frame | Call::Rows | Call::Visit => spoil_near(r, q, |q| &mut q.t8s, value),
+            Call::Whole | Call::Rows | Call::Visit => spoil_near(r, q, |q| &mut q.t8s, value),
             _ => spoil_near(r, q, |q| &mut q.inter, value),
         }
     }),
@@ -63,19 +63,35 @@ const DAMAGES: [(u32, Damage); 25] = [
     (14, |r, q| spoil_near(r, q, |q| &mut q.marks, 0)),
 ];
 
+/// What can be wrong with a field beside that: no part, the part of the frame, and the planes of the field
+/// alone.
+const FIELD_DAMAGES: [(u32, Damage); 3] = [
+    (19, |r, q| q.part = r.pick(&[3, 4, 127, 128, 254, 255])),
+    (3, |_, q| q.part = 0),
+    (3, |_, q| [&mut q.luma, &mut q.u, &mut q.v].into_iter().for_each(|plane| plane.resize(plane.len() / 2, 0))),
+];
+
+fn damages(of: Structure) -> Vec<(u32, Damage)> {
+    match of {
+        Structure::Frame => DAMAGES.to_vec(),
+        Structure::Field => [&DAMAGES[..], &FIELD_DAMAGES].concat(),
+    }
+}
+
 /// Sides that are too large, whose products and sums overflow.
 const HUGE: [usize; 8] = [0, 257, usize::MAX, 1 << 63, (1 << 63) + 1, 1 << 32, 1 << 56, usize::MAX / 32 + 2];
 
 /// One good request of each call, spoiled once and twice in every combination.
-pub fn every_pair(s: &mut Session, r: &mut Rng, area: usize) -> Outcome {
+pub fn every_pair(s: &mut Session, r: &mut Rng, of: Structure, area: usize) -> Outcome {
+    let damages = damages(of);
     for call in CALLS {
-        let good = good(r, call, area);
+        let good = good(r, of, call, area);
         s.check("refusals", &good)?;
-        for (i, (_, first)) in DAMAGES.iter().enumerate() {
+        for (i, (_, first)) in damages.iter().enumerate() {
             let mut once = good.clone();
             first(r, &mut once);
             s.check("refusals", &once)?;
-            for (_, second) in &DAMAGES[i..] {
+            for (_, second) in &damages[i..] {
                 let mut twice = once.clone();
                 second(r, &mut twice);
                 s.check("refusals", &twice)?;
@@ -86,21 +102,22 @@ pub fn every_pair(s: &mut Session, r: &mut Rng, area: usize) -> Outcome {
 }
 
 /// A small random request, spoiled up to three times: quick, so that there are many.
-pub fn spoiled(s: &mut Session, r: &mut Rng) -> Outcome {
+pub fn spoiled(s: &mut Session, r: &mut Rng, of: Structure) -> Outcome {
+    let damages = damages(of);
     let call = r.pick(&CALLS);
-    let mut q = good(r, call, 6);
+    let mut q = good(r, of, call, 6);
     for _ in 0..r.below(4) {
-        r.pick(&DAMAGES).1(r, &mut q);
+        r.pick(&damages).1(r, &mut q);
     }
     s.check("refusals", &q)
 }
 
-fn good(r: &mut Rng, call: Call, area: usize) -> Request {
+fn good(r: &mut Rng, of: Structure, call: Call, area: usize) -> Request {
     let (w, h) = make::size(r, area);
     if call.is_strengths() {
-        return make::grids(r, call, w, h);
+        return make::grids(r, of, call, w, h);
     }
-    let mut q = make::picture(r, call, w, h);
+    let mut q = make::picture(r, of, call, w, h);
     if call == Call::Visit {
         // ready: everything before it in raster order is marked, and what follows may be
         let at = q.at();
@@ -118,10 +135,10 @@ fn spoil_length<T: Lent + Default>(r: &mut Rng, b: &mut Buffer<T>) {
 }
 
 /// Changes one entry of a buffer: of this macroblock, of one beside it, or anywhere.
-fn spoil_near<T: Lent>(r: &mut Rng, q: &mut Request, field: fn(&mut Request) -> &mut Buffer<T>, value: T) {
+fn spoil_near<T: Lent>(r: &mut Rng, q: &mut Request, member: fn(&mut Request) -> &mut Buffer<T>, value: T) {
     let (w, n) = (q.w.clamp(1, 256), q.w.saturating_mul(q.h).max(1));
     let at = q.y.saturating_mul(w).saturating_add(q.x);
-    let b = field(q);
+    let b = member(q);
     if b.is_empty() {
         return;
     }
@@ -140,9 +157,9 @@ mod tests {
     #[test]
     fn every_damage_calls_its_number_forth() {
         let mut r = Rng::new(2);
-        for (i, (number, damage)) in DAMAGES.iter().enumerate() {
+        for (i, (number, damage)) in damages(Structure::Field).iter().enumerate() {
             let mut hits = |call: Call| {
-                let mut q = good(&mut r, call, 6);
+                let mut q = good(&mut r, Structure::Field, call, 6);
                 let before = crate::table::answer(&q);
                 damage(&mut r, &mut q);
                 before == 0 && crate::table::answer(&q) == *number

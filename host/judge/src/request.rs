@@ -3,17 +3,19 @@
 use std::ops::{Deref, DerefMut};
 
 /// The six calls of the archive.
-#[derive(Clone, Copy, PartialEq, Eq, Debug)]
+#[derive(Clone, Copy, PartialEq, Eq, PartialOrd, Ord, Debug)]
 pub enum Call {
     Kind,
     Flags,
     Flagless,
-    Frame,
+    Whole,
     Rows,
     Visit,
 }
 
-pub const CALLS: [Call; 6] = [Call::Kind, Call::Flags, Call::Flagless, Call::Frame, Call::Rows, Call::Visit];
+pub const STRENGTH_CALLS: [Call; 3] = [Call::Kind, Call::Flags, Call::Flagless];
+pub const FILTER_CALLS: [Call; 3] = [Call::Whole, Call::Rows, Call::Visit];
+pub const CALLS: [Call; 6] = [Call::Kind, Call::Flags, Call::Flagless, Call::Whole, Call::Rows, Call::Visit];
 
 impl Call {
     /// Whether the call is lent the 4x4 grids and writes strengths; the others are lent planes and read
@@ -23,12 +25,46 @@ impl Call {
     }
 }
 
+/// What a picture is: a frame, or a field, which lies on every second line of a frame.
+#[derive(Clone, Copy, PartialEq, Eq, PartialOrd, Ord)]
+pub enum Structure {
+    Frame,
+    Field,
+}
+
+impl Structure {
+    pub fn of(part: u8) -> Structure {
+        match part {
+            0 => Structure::Frame,
+            _ => Structure::Field,
+        }
+    }
+
+    pub fn words(self) -> &'static str {
+        match self {
+            Structure::Frame => "frames",
+            Structure::Field => "fields",
+        }
+    }
+
+    /// How many pictures share the planes.
+    pub fn share(self) -> usize {
+        match self {
+            Structure::Frame => 1,
+            Structure::Field => 2,
+        }
+    }
+}
+
 /// A call and its arguments. What the call does not take stays empty or 0.
 #[derive(Clone, PartialEq)]
 pub struct Request {
     pub call: Call,
     pub w: usize,
     pub h: usize,
+    /// 0 a frame, 1 its top field, 2 its bottom field. To a strength call any byte but 0 says that the
+    /// picture is a field.
+    pub part: u8,
     /// The macroblock of a strength call or a visit.
     pub x: usize,
     pub y: usize,
@@ -62,6 +98,7 @@ impl Request {
             call,
             w,
             h,
+            part: 0,
             x: 0,
             y: 0,
             first: 0,
@@ -92,6 +129,10 @@ impl Request {
         self.y * self.w + self.x
     }
 
+    pub fn structure(&self) -> Structure {
+        Structure::of(self.part)
+    }
+
     /// The first thing that differs between two requests, in words.
     pub fn difference(&self, other: &Request) -> Option<String> {
         differs("inter", &self.inter, &other.inter)
@@ -107,6 +148,23 @@ impl Request {
             .or_else(|| differs("qps", &self.qps, &other.qps))
             .or_else(|| differs("t8s", &self.t8s, &other.t8s))
             .or_else(|| differs("marks", &self.marks, &other.marks))
+    }
+
+    /// Undoes the step from `before` to `after` in every entry that is still as in `after`.
+    pub fn undo(&mut self, before: &Request, after: &Request) {
+        self.inter.undo(&before.inter, &after.inter);
+        self.nnz.undo(&before.nnz, &after.nnz);
+        self.ref0.undo(&before.ref0, &after.ref0);
+        self.mv0.undo(&before.mv0, &after.mv0);
+        self.ref1.undo(&before.ref1, &after.ref1);
+        self.mv1.undo(&before.mv1, &after.mv1);
+        self.strengths.undo(&before.strengths, &after.strengths);
+        self.luma.undo(&before.luma, &after.luma);
+        self.u.undo(&before.u, &after.u);
+        self.v.undo(&before.v, &after.v);
+        self.qps.undo(&before.qps, &after.qps);
+        self.t8s.undo(&before.t8s, &after.t8s);
+        self.marks.undo(&before.marks, &after.marks);
     }
 }
 
@@ -130,16 +188,21 @@ const GUARD: usize = 64;
 /// The element types that are lent, each with the value of its guards.
 pub trait Lent: Copy + PartialEq + std::fmt::Debug {
     const GUARD: Self;
+    /// Any value, from random bits.
+    fn of(bits: u64) -> Self;
 }
-impl Lent for u8 {
-    const GUARD: u8 = 0xA5;
+
+macro_rules! lent {
+    ($($type:ident $guard:literal)*) => {
+        $(impl Lent for $type {
+            const GUARD: $type = $guard;
+            fn of(bits: u64) -> $type {
+                bits as $type
+            }
+        })*
+    };
 }
-impl Lent for i8 {
-    const GUARD: i8 = -0x5B;
-}
-impl Lent for i16 {
-    const GUARD: i16 = -0x5A5B;
-}
+lent! { u8 0xA5 i8 -0x5B i16 -0x5A5B }
 
 /// Lent memory between guards. Comparing two buffers compares their guards too, so a byte written beside a
 /// buffer shows.
@@ -153,6 +216,14 @@ impl<T: Lent> Buffer<T> {
         let mut content = self.to_vec();
         content.resize(len, fill);
         *self = content.into();
+    }
+
+    fn undo(&mut self, before: &[T], after: &[T]) {
+        for (own, (before, after)) in self.iter_mut().zip(before.iter().zip(after)) {
+            if before != after && own == after {
+                *own = *before;
+            }
+        }
     }
 }
 
@@ -183,5 +254,18 @@ impl<T> DerefMut for Buffer<T> {
     fn deref_mut(&mut self) -> &mut [T] {
         let end = self.all.len() - GUARD;
         &mut self.all[GUARD..end]
+    }
+}
+
+#[cfg(test)]
+mod tests {
+    use super::*;
+
+    #[test]
+    fn what_a_call_has_changed_is_not_undone() {
+        let lent = |marks: [u8; 4]| Request { marks: marks.to_vec().into(), ..Request::new(Call::Visit, 4, 1) };
+        let mut got = lent([9, 2, 7, 5]);
+        got.undo(&lent([1, 2, 3, 4]), &lent([9, 2, 8, 4]));
+        assert_eq!(got.marks[..], [1, 2, 7, 5]);
     }
 }

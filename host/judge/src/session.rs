@@ -1,7 +1,7 @@
 //! Compares calls one by one and keeps count.
 
-use crate::expect::expect;
-use crate::request::{Call, Request};
+use crate::expect::{expect, second_opinion};
+use crate::request::{Call, Request, Structure};
 use crate::shrink;
 use crate::subject::Subject;
 use std::collections::BTreeMap;
@@ -18,34 +18,59 @@ impl fmt::Display for Failure {
 
 pub type Outcome = Result<(), Failure>;
 
+/// How often each number was answered.
+type Numbers = BTreeMap<u32, u64>;
+
 pub struct Session<'a> {
     subject: &'a dyn Subject,
-    /// Off for filters that are known to be wrong: that they are caught is all that is asked.
-    shrinks: bool,
-    /// For each run and call, how often each number was answered.
-    counts: BTreeMap<(&'static str, String), [u64; 15]>,
+    /// Off for filters that are known to be wrong: that they are caught is all that is asked. No case is
+    /// made small then, and there are no second opinions.
+    thorough: bool,
+    /// What the runs are about that are now made.
+    of: Structure,
+    /// For what each run is about, each run and each call.
+    counts: BTreeMap<(Structure, &'static str, Call), Numbers>,
     /// For each other kind of comparison (a whole picture after visits), how many were made.
     others: BTreeMap<&'static str, u64>,
+    /// Calls on frames that were done.
+    frames_done: u64,
 }
 
+/// Of so many calls on a frame that are done, the model is asked about one. The original is asked about every
+/// call on a field.
+const MODEL_ASKED: u64 = 8;
+
 impl<'a> Session<'a> {
-    pub fn new(subject: &'a dyn Subject, shrinks: bool) -> Self {
-        Session { subject, shrinks, counts: BTreeMap::new(), others: BTreeMap::new() }
+    pub fn new(subject: &'a dyn Subject, thorough: bool) -> Self {
+        let (counts, others) = (BTreeMap::new(), BTreeMap::new());
+        Session { subject, thorough, of: Structure::Frame, counts, others, frames_done: 0 }
+    }
+
+    /// From now on runs are about frames, or about fields: a field's part may be wrong, and be that of a
+    /// frame.
+    pub fn about(&mut self, of: Structure) {
+        self.of = of;
     }
 
     /// Makes the call and compares its answer and every lent byte, guards included.
     pub fn check(&mut self, run: &'static str, r: &Request) -> Outcome {
-        match mismatch(self.subject, r) {
-            Ok(number) => {
+        let mut want = r.clone();
+        let number = expect(&mut want);
+        if number == 0 && self.thorough {
+            self.second(run, r, &want)?;
+        }
+        match compared(self.subject, r, number, &want) {
+            Ok(()) => {
                 self.count(run, r.call, number);
                 Ok(())
             }
-            Err(what) if !self.shrinks => Err(Failure(format!("{run}, {:?}: {what}", r.call))),
+            Err(what) if !self.thorough => Err(Failure(format!("{}, {run}, {:?}: {what}", self.of.words(), r.call))),
             Err(what) => {
                 let small = shrink::smallest(r, |r| mismatch(self.subject, r).is_err());
                 let after = mismatch(self.subject, &small).err().unwrap_or_default();
                 Err(Failure(format!(
-                    "{run}, call {:?} on {} by {}: {what}\nthe smallest such case: {after}\n{}",
+                    "{}, {run}, call {:?} on {} by {}: {what}\nthe smallest such case: {after}\n{}",
+                    self.of.words(),
                     r.call,
                     r.w,
                     r.h,
@@ -55,42 +80,81 @@ impl<'a> Session<'a> {
         }
     }
 
+    /// Asks the model about a frame, the original about a field: what the call is held to must be what both
+    /// of them say.
+    fn second(&mut self, run: &'static str, r: &Request, want: &Request) -> Outcome {
+        let (asks, what) = match r.structure() {
+            Structure::Frame => {
+                self.frames_done += 1;
+                (self.frames_done.is_multiple_of(MODEL_ASKED), "calls on frames, which the model was asked about too")
+            }
+            Structure::Field => (true, "calls on fields, which the original was asked about too"),
+        };
+        let Some(other) = asks.then(|| second_opinion(r)).flatten() else { return Ok(()) };
+        self.note(what);
+        match other.difference(want) {
+            None => Ok(()),
+            Some(what) => {
+                let case = shrink::describe(r);
+                Err(Failure(format!("{run}: model and original differ, so the judge is at fault: {what}\n{case}")))
+            }
+        }
+    }
+
     /// Makes the call in place, for sequences; the caller compares the memory.
     pub fn call(&mut self, run: &'static str, r: &mut Request, number: u32) -> Outcome {
         let answer = self.subject.call(r);
         if answer != number {
-            let (x, y, w, h) = (r.x, r.y, r.w, r.h);
-            let what = format!("visit of ({x}, {y}) in {w} by {h} answered {answer} instead of {number}");
+            let (x, y, w, h, part) = (r.x, r.y, r.w, r.h, r.part);
+            let what = format!("visit of ({x}, {y}) in {w} by {h}, part {part}, answered {answer} instead of {number}");
             return Err(Failure(format!("{run}: {what}")));
         }
         self.count(run, r.call, number);
         Ok(())
     }
 
+    /// Makes the call on two requests that differ in nothing that it reads, and compares what they become:
+    /// the same answer, what differed is as it was, and all else is alike.
+    pub fn alike(&mut self, run: &'static str, r: &Request, other: &Request) -> Outcome {
+        self.check(run, r)?;
+        self.check(run, other)?;
+        let (mut one, mut two) = (r.clone(), other.clone());
+        let answers = [self.subject.call(&mut one), self.subject.call(&mut two)];
+        two.undo(r, other);
+        let what = match two.difference(&one) {
+            _ if answers[0] != answers[1] => format!("answered {answers:?}"),
+            Some(what) => what,
+            None => {
+                self.note("calls made again with other bytes wherever they do not read");
+                return Ok(());
+            }
+        };
+        Err(Failure(format!("{run}, {:?}: bytes that are not read tell: {what}\n{}", r.call, shrink::describe(r))))
+    }
+
     pub fn note(&mut self, what: &'static str) {
         *self.others.entry(what).or_default() += 1;
     }
 
-    pub fn calls(&self) -> u64 {
-        self.counts.values().flatten().sum()
+    /// How many calls of the runs about frames, or about fields, were compared.
+    pub fn calls(&self, of: Structure) -> u64 {
+        let own = self.counts.iter().filter(|((own, ..), _)| *own == of);
+        own.flat_map(|(_, numbers)| numbers.values()).sum()
     }
 
-    /// How often each number was answered, over everything.
-    pub fn numbers(&self) -> [u64; 15] {
-        let mut sum = [0; 15];
-        for counts in self.counts.values() {
-            (0..15).for_each(|i| sum[i] += counts[i]);
-        }
-        sum
+    /// How often a number was answered, over everything.
+    pub fn answered(&self, number: u32) -> u64 {
+        self.counts.values().filter_map(|numbers| numbers.get(&number)).sum()
     }
 
     pub fn print(&self) {
-        println!("{:<12}{:<10}{:>10}{:>10}   refused, by number", "run", "call", "calls", "done");
-        for ((run, call), counts) in &self.counts {
-            let (calls, done): (u64, u64) = (counts.iter().sum(), counts[0]);
+        println!("{:<10}{:<12}{:<10}{:>10}{:>10}   refused, by number", "of", "run", "call", "calls", "done");
+        for ((of, run, call), numbers) in &self.counts {
+            let (calls, done) = (numbers.values().sum::<u64>(), numbers.get(&0).copied().unwrap_or(0));
             let refused: Vec<String> =
-                (1..15).filter(|&i| counts[i] > 0).map(|i| format!("{i}: {}", counts[i])).collect();
-            println!("{run:<12}{call:<10}{calls:>10}{done:>10}   {}", refused.join(", "));
+                numbers.iter().filter(|(n, _)| **n > 0).map(|(n, count)| format!("{n}: {count}")).collect();
+            let (of, call) = (of.words(), format!("{call:?}"));
+            println!("{of:<10}{run:<12}{call:<10}{calls:>10}{done:>10}   {}", refused.join(", "));
         }
         for (what, count) in &self.others {
             println!("{what}: {count}");
@@ -98,21 +162,26 @@ impl<'a> Session<'a> {
     }
 
     fn count(&mut self, run: &'static str, call: Call, number: u32) {
-        self.counts.entry((run, format!("{call:?}"))).or_default()[number as usize] += 1;
+        let numbers = self.counts.entry((self.of, run, call)).or_default();
+        *numbers.entry(number).or_default() += 1;
     }
 }
 
-/// The number answered if all is as it must be, else what is not.
-fn mismatch(subject: &dyn Subject, r: &Request) -> Result<u32, String> {
+/// What is not as it must be, if anything is not.
+fn mismatch(subject: &dyn Subject, r: &Request) -> Result<(), String> {
     let mut want = r.clone();
     let number = expect(&mut want);
+    compared(subject, r, number, &want)
+}
+
+fn compared(subject: &dyn Subject, r: &Request, number: u32, want: &Request) -> Result<(), String> {
     let mut got = r.clone();
     let answer = subject.call(&mut got);
     if answer != number {
         return Err(format!("answered {answer} instead of {number}"));
     }
-    match got.difference(&want) {
+    match got.difference(want) {
         Some(what) => Err(format!("answered {answer}, but {what}")),
-        None => Ok(number),
+        None => Ok(()),
     }
 }

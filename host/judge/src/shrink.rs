@@ -39,7 +39,7 @@ fn crops(r: &Request) -> Vec<Request> {
     if !(1..=256).contains(&w) || !(1..=256).contains(&h) {
         return Vec::new();
     }
-    let parts = [
+    let areas = [
         (0, w / 2, 0, h),
         (w / 2, w, 0, h),
         (0, w, 0, h / 2),
@@ -49,42 +49,43 @@ fn crops(r: &Request) -> Vec<Request> {
         (0, w, 1, h),
         (0, w, 0, h - 1),
     ];
-    parts.into_iter().filter_map(|(x0, x1, y0, y1)| crop(r, [x0, x1, y0, y1])).collect()
+    areas.into_iter().filter_map(|(x0, x1, y0, y1)| crop(r, [x0, x1, y0, y1])).collect()
 }
 
-fn crop(r: &Request, part: [usize; 4]) -> Option<Request> {
-    let [x0, x1, y0, y1] = part;
+fn crop(r: &Request, area: [usize; 4]) -> Option<Request> {
+    let [x0, x1, y0, y1] = area;
     let (w, h) = (x1 - x0, y1 - y0);
     if w == 0 || h == 0 || (w, h) == (r.w, r.h) {
         return None;
     }
     let mut c = r.clone();
     (c.w, c.h) = (w, h);
-    let has_place = !matches!(r.call, Call::Frame | Call::Rows);
+    let has_place = !matches!(r.call, Call::Whole | Call::Rows);
     let shifted = |at: usize, from: usize| if has_place { at.checked_sub(from) } else { Some(0) };
     (c.x, c.y) = (shifted(r.x, x0)?, shifted(r.y, y0)?);
     c.first = r.first.saturating_sub(y0).min(h);
     c.last = r.last.saturating_sub(y0).min(h);
     let old = r.w;
-    cut(&mut c.inter, old, r.h, (4, 4), part)?;
-    cut(&mut c.nnz, old, r.h, (4, 4), part)?;
-    cut(&mut c.ref0, old, r.h, (4, 4), part)?;
-    cut(&mut c.mv0, old, r.h, (8, 4), part)?;
-    cut(&mut c.ref1, old, r.h, (4, 4), part)?;
-    cut(&mut c.mv1, old, r.h, (8, 4), part)?;
-    cut(&mut c.strengths, old, r.h, (32, 1), part)?;
-    cut(&mut c.luma, old, r.h, (16, 16), part)?;
-    cut(&mut c.u, old, r.h, (8, 8), part)?;
-    cut(&mut c.v, old, r.h, (8, 8), part)?;
-    cut(&mut c.qps, old, r.h, (1, 1), part)?;
-    cut(&mut c.t8s, old, r.h, (1, 1), part)?;
-    cut(&mut c.marks, old, r.h, (1, 1), part)?;
+    cut(&mut c.inter, old, r.h, (4, 4), area)?;
+    cut(&mut c.nnz, old, r.h, (4, 4), area)?;
+    cut(&mut c.ref0, old, r.h, (4, 4), area)?;
+    cut(&mut c.mv0, old, r.h, (8, 4), area)?;
+    cut(&mut c.ref1, old, r.h, (4, 4), area)?;
+    cut(&mut c.mv1, old, r.h, (8, 4), area)?;
+    cut(&mut c.strengths, old, r.h, (32, 1), area)?;
+    let share = r.structure().share();
+    cut(&mut c.luma, old, r.h, (16, 16 * share), area)?;
+    cut(&mut c.u, old, r.h, (8, 8 * share), area)?;
+    cut(&mut c.v, old, r.h, (8, 8 * share), area)?;
+    cut(&mut c.qps, old, r.h, (1, 1), area)?;
+    cut(&mut c.t8s, old, r.h, (1, 1), area)?;
+    cut(&mut c.marks, old, r.h, (1, 1), area)?;
     Some(c)
 }
 
-/// Keeps the part of a grid with `cell.0` by `cell.1` entries a macroblock.
-fn cut<T: Lent>(b: &mut Buffer<T>, w: usize, h: usize, cell: (usize, usize), part: [usize; 4]) -> Option<()> {
-    let [x0, x1, y0, y1] = part;
+/// Keeps the area of a grid with `cell.0` by `cell.1` entries a macroblock.
+fn cut<T: Lent>(b: &mut Buffer<T>, w: usize, h: usize, cell: (usize, usize), area: [usize; 4]) -> Option<()> {
+    let [x0, x1, y0, y1] = area;
     let row = w * cell.0;
     if b.is_empty() {
         return Some(());
@@ -123,19 +124,19 @@ fn attempt(best: &mut Request, fails: &impl Fn(&Request) -> bool, change: impl F
 /// Makes runs of entries equal to `value`: all, then halves, quarters, down to single ones.
 fn plain<T: Lent>(
     best: &mut Request,
-    field: impl Fn(&mut Request) -> &mut Buffer<T>,
+    member: impl Fn(&mut Request) -> &mut Buffer<T>,
     value: T,
     keep: &mut impl FnMut(&Request) -> bool,
 ) {
-    let len = field(best).len();
+    let len = member(best).len();
     let mut run = len;
     while run > 0 {
         for from in (0..len).step_by(run) {
             let mut tried = best.clone();
             let to = len.min(from + run);
-            let part = &mut field(&mut tried)[from..to];
-            if part.iter().any(|v| *v != value) {
-                part.fill(value);
+            let some = &mut member(&mut tried)[from..to];
+            if some.iter().any(|v| *v != value) {
+                some.fill(value);
                 if keep(&tried) {
                     *best = tried;
                 }
@@ -147,7 +148,7 @@ fn plain<T: Lent>(
 
 /// The case in words: the numbers, and every entry that is not the plain one.
 pub fn describe(r: &Request) -> String {
-    let mut s = format!("{:?} w {} h {}", r.call, r.w, r.h);
+    let mut s = format!("{:?} w {} h {} part {}", r.call, r.w, r.h, r.part);
     let mut say = |args: std::fmt::Arguments| s.write_fmt(args).expect("a string takes everything");
     say(format_args!(" x {} y {} first {} last {}", r.x, r.y, r.first, r.last));
     say(format_args!(" kind {} flat {} uniform {} t8 {} offsets {:?}", r.kind, r.flat, r.uniform, r.t8, r.offsets));
@@ -182,11 +183,12 @@ fn entries<T: Lent + Debug>(name: &str, b: &Buffer<T>, plain: T) -> String {
 #[cfg(test)]
 mod tests {
     use super::*;
+    use crate::request::Structure;
 
     /// A case that fails as long as one strength of the last macroblock is 3 comes down to just that.
     #[test]
     fn shrinks_to_what_matters() {
-        let mut q = crate::make::picture(&mut inputs::Rng::new(8), Call::Frame, 5, 4);
+        let mut q = crate::make::picture(&mut inputs::Rng::new(8), Structure::Frame, Call::Whole, 5, 4);
         q.strengths[32 * 19 + 7] = 3;
         q.offsets = [1, 2, 3];
         let fails = |r: &Request| r.strengths.len() == 32 * r.w * r.h && r.strengths[32 * (r.w * r.h - 1) + 7] == 3;
@@ -199,7 +201,7 @@ mod tests {
 
     #[test]
     fn wrong_lengths_are_not_cropped() {
-        let mut q = crate::make::picture(&mut inputs::Rng::new(8), Call::Frame, 5, 4);
+        let mut q = crate::make::picture(&mut inputs::Rng::new(8), Structure::Frame, Call::Whole, 5, 4);
         q.u.resize(7, 0);
         assert_eq!(smallest(&q, |r| r.u.len() == 7).w, 5);
     }

@@ -1,47 +1,51 @@
 //! Everything, where everything is few.
 
 use crate::make;
-use crate::request::{Call, Request};
+use crate::request::{Call, Request, Structure};
 use crate::session::{Outcome, Session};
-use inputs::{texture, Rng, Texture};
+use crate::small_fields;
+use inputs::{Rng, Texture};
 
 const SIZES: [(usize, usize); 4] = [(1, 1), (2, 1), (1, 2), (2, 2)];
 
 /// All the exhaustive runs; `share` 1 is all of it, 2 every second case, and so on.
 pub fn run(s: &mut Session, share: usize) -> Outcome {
     let mut thin = Thin { share, count: 0 };
-    every_strength_on_every_segment(s, &mut thin)?;
-    every_threshold(s, &mut thin)?;
-    every_pair_of_chroma_qps(s, &mut thin)?;
-    every_row_range(s)?;
-    every_side(s, &mut thin)?;
-    every_pair_of_motions(s, &mut thin)?;
-    every_kind_of_macroblock(s, &mut thin)
+    for part in 0..3 {
+        s.about(Structure::of(part));
+        every_strength_on_every_segment(s, &mut thin, part)?;
+        every_row_range(s, part)?;
+        if part < 2 {
+            // which field it is matters neither to thresholds nor to strength calls; of sides both come up
+            every_side(s, &mut thin, Structure::of(part))?;
+            every_threshold(s, &mut thin, part)?;
+            every_pair_of_chroma_qps(s, &mut thin, part)?;
+            every_pair_of_motions(s, &mut thin, part)?;
+            every_kind_of_macroblock(s, &mut thin, part)?;
+        }
+    }
+    small_fields::run(s, &mut thin)
 }
 
 /// Takes one case of `share`.
-struct Thin {
+pub struct Thin {
     share: usize,
     count: usize,
 }
 
 impl Thin {
-    fn takes(&mut self) -> bool {
+    pub fn takes(&mut self) -> bool {
         self.count += 1;
         self.count.is_multiple_of(self.share)
     }
 }
 
 /// A picture whose blocks differ by little, so that QPs of 25 on filter it.
-fn blocky(call: Call, w: usize, h: usize, seed: u64) -> Request {
-    let mut r = Rng::new(seed);
+pub fn blocky(part: u8, call: Call, w: usize, h: usize, seed: u64) -> Request {
     let n = w * h;
-    let look = Texture { step: 5, noise: 1, base: 120 };
     let mut q = Request::new(call, w, h);
-    q.last = h;
-    q.luma = texture(&mut r, 16 * w, 16 * h, look).into();
-    q.u = texture(&mut r, 8 * w, 8 * h, look).into();
-    q.v = texture(&mut r, 8 * w, 8 * h, look).into();
+    (q.part, q.last) = (part, h);
+    make::planes(&mut Rng::new(seed), Structure::of(part), &mut q, Texture { step: 5, noise: 1, base: 120 });
     q.strengths = vec![0; 32 * n].into();
     q.qps = vec![34; n].into();
     q.marks = if call == Call::Visit { vec![1; n].into() } else { Vec::new().into() };
@@ -50,15 +54,15 @@ fn blocky(call: Call, w: usize, h: usize, seed: u64) -> Request {
 
 /// Each of the 32 segments alone with each strength, and all with the same; with and without 8x8; in every
 /// place.
-fn every_strength_on_every_segment(s: &mut Session, thin: &mut Thin) -> Outcome {
+fn every_strength_on_every_segment(s: &mut Session, thin: &mut Thin, part: u8) -> Outcome {
     for (w, h) in SIZES {
         for (m, strength, flag, qp) in product([w * h, 5, 3, 3]) {
             for segment in 0..33 {
                 if !thin.takes() {
                     continue;
                 }
-                let call = if segment % 2 == 0 { Call::Frame } else { Call::Visit };
-                let mut q = blocky(call, w, h, (7 * segment + strength) as u64);
+                let call = if segment % 2 == 0 { Call::Whole } else { Call::Visit };
+                let mut q = blocky(part, call, w, h, (7 * segment + strength) as u64);
                 (q.x, q.y) = (m % w, m / w);
                 let all = segment == 32;
                 let own = if all { 32 * m..32 * m + 32 } else { 32 * m + segment..32 * m + segment + 1 };
@@ -78,10 +82,10 @@ fn every_strength_on_every_segment(s: &mut Session, thin: &mut Thin) -> Outcome 
 }
 
 /// Every QP with every pair of offsets A and B.
-fn every_threshold(s: &mut Session, thin: &mut Thin) -> Outcome {
+fn every_threshold(s: &mut Session, thin: &mut Thin, part: u8) -> Outcome {
     for (qp, a, b, _) in product([52, 25, 25, 1]) {
         if thin.takes() {
-            let mut q = blocky(Call::Frame, 1, 1, (qp * 31 + a * 7 + b) as u64);
+            let mut q = blocky(part, Call::Whole, 1, 1, (qp * 31 + a * 7 + b) as u64);
             q.strengths.iter_mut().enumerate().for_each(|(i, s)| *s = (1 + i % 4) as u8);
             q.qps.fill(qp as u8);
             q.offsets = [a as i32 - 12, b as i32 - 12, (a as i32 + b as i32) % 25 - 12];
@@ -92,11 +96,11 @@ fn every_threshold(s: &mut Session, thin: &mut Thin) -> Outcome {
 }
 
 /// Every pair of neighbouring QPs with every chroma offset.
-fn every_pair_of_chroma_qps(s: &mut Session, thin: &mut Thin) -> Outcome {
+fn every_pair_of_chroma_qps(s: &mut Session, thin: &mut Thin, part: u8) -> Outcome {
     for (p, q0, chroma, _) in product([52, 52, 25, 1]) {
         if thin.takes() {
             let (w, h) = if (p + q0 + chroma) % 2 == 0 { (2, 1) } else { (1, 2) };
-            let mut q = blocky(Call::Frame, w, h, (p * 53 + q0) as u64);
+            let mut q = blocky(part, Call::Whole, w, h, (p * 53 + q0) as u64);
             // the outer edge of the second macroblock alone
             q.strengths[32..36].fill(if w == 2 { 3 } else { 0 });
             q.strengths[48..52].fill(if h == 2 { 3 } else { 0 });
@@ -109,58 +113,66 @@ fn every_pair_of_chroma_qps(s: &mut Session, thin: &mut Thin) -> Outcome {
 }
 
 /// Every range of rows of a small picture, wrong ones among them.
-fn every_row_range(s: &mut Session) -> Outcome {
+fn every_row_range(s: &mut Session, part: u8) -> Outcome {
     let mut r = Rng::new(3);
     for (h, first, last, _) in product([6, 8, 8, 1]) {
-        let mut q = make::picture(&mut r, Call::Rows, 2, h + 1);
-        (q.first, q.last) = (first, last);
+        let mut q = make::picture(&mut r, Structure::of(part), Call::Rows, 2, h + 1);
+        (q.part, q.first, q.last) = (part, first, last);
         s.check("small", &q)?;
     }
     Ok(())
 }
 
 /// Every width and every height, with the other side 1 or 2.
-fn every_side(s: &mut Session, thin: &mut Thin) -> Outcome {
+fn every_side(s: &mut Session, thin: &mut Thin, of: Structure) -> Outcome {
     let mut r = Rng::new(4);
     for (side, other, tall, call) in product([256, 2, 2, 2]) {
         if thin.takes() {
             let (w, h) = if tall == 1 { (other + 1, side + 1) } else { (side + 1, other + 1) };
-            s.check("small", &make::picture(&mut r, [Call::Frame, Call::Visit][call], w, h))?;
-            s.check("small", &make::grids(&mut r, Call::Flagless, w, h))?;
+            s.check("small", &make::picture(&mut r, of, [Call::Whole, Call::Visit][call], w, h))?;
+            s.check("small", &make::grids(&mut r, of, Call::Flagless, w, h))?;
         }
     }
     Ok(())
 }
 
 /// Two macroblocks side by side or one above the other, each of one motion: every pair of a small alphabet.
-fn every_pair_of_motions(s: &mut Session, thin: &mut Thin) -> Outcome {
-    const VECTORS: [(i16, i16); 5] = [(0, 0), (3, 0), (4, 0), (0, -4), (8, -3)];
+fn every_pair_of_motions(s: &mut Session, thin: &mut Thin, part: u8) -> Outcome {
     const REFS: [i8; 3] = [-1, 5, 7];
-    let motion = |i: usize| (REFS[i / 5], VECTORS[i % 5]);
+    let (near, far) = if part == 0 { (3, 4) } else { (1, 2) }; // down
+    let vectors = [(0, 0), (3, 0), (4, 0), (0, -far), (8, -near)];
+    let motion = |i: usize| (REFS[i / 5], vectors[i % 5]);
     for (p0, p1, q0, q1) in product([15, 15, 15, 15]) {
         if !thin.takes() {
             continue;
         }
         let (w, h) = if (p0 + p1) % 2 == 0 { (2, 1) } else { (1, 2) };
-        let mut q = Request::new(Call::Flagless, w, h);
-        (q.x, q.y) = (w - 1, h - 1);
-        let blocks = (0..32).map(|i| if w == 2 { i % 8 / 4 } else { i / 16 });
-        let lists: Vec<[usize; 2]> = blocks.map(|m| [[p0, p1], [q0, q1]][m]).collect();
-        let list = |l: usize| lists.iter().map(move |m| motion(m[l]));
-        q.inter = vec![1; 32].into();
-        q.nnz = vec![0; 32].into();
-        q.ref0 = list(0).map(|m| m.0).collect::<Vec<i8>>().into();
-        q.ref1 = list(1).map(|m| m.0).collect::<Vec<i8>>().into();
-        q.mv0 = list(0).flat_map(|m| [m.1 .0, m.1 .1]).collect::<Vec<i16>>().into();
-        q.mv1 = list(1).flat_map(|m| [m.1 .0, m.1 .1]).collect::<Vec<i16>>().into();
-        q.strengths = vec![9; 64].into();
-        s.check("small", &q)?;
+        let lists = [[p0, p1], [q0, q1]].map(|lists| lists.map(motion));
+        s.check("small", &two_macroblocks(part, w, h, lists))?;
     }
     Ok(())
 }
 
+/// A reference and its vector.
+pub type Motion = (i8, (i16, i16));
+
+/// Two macroblocks without coefficients, each of one motion in both lists; the second is asked for.
+pub fn two_macroblocks(part: u8, w: usize, h: usize, lists: [[Motion; 2]; 2]) -> Request {
+    let mut q = Request::new(Call::Flagless, w, h);
+    (q.part, q.x, q.y) = (part, w - 1, h - 1);
+    let list = |l: usize| (0..32).map(move |i| lists[if w == 2 { i % 8 / 4 } else { i / 16 }][l]);
+    q.inter = vec![1; 32].into();
+    q.nnz = vec![0; 32].into();
+    q.ref0 = list(0).map(|m| m.0).collect::<Vec<i8>>().into();
+    q.ref1 = list(1).map(|m| m.0).collect::<Vec<i8>>().into();
+    q.mv0 = list(0).flat_map(|m| [m.1 .0, m.1 .1]).collect::<Vec<i16>>().into();
+    q.mv1 = list(1).flat_map(|m| [m.1 .0, m.1 .1]).collect::<Vec<i16>>().into();
+    q.strengths = vec![9; 64].into();
+    q
+}
+
 /// Every picture of eight kinds of macroblock on the four smallest sizes, asked in every way, true or not.
-fn every_kind_of_macroblock(s: &mut Session, thin: &mut Thin) -> Outcome {
+fn every_kind_of_macroblock(s: &mut Session, thin: &mut Thin, part: u8) -> Outcome {
     for (w, h) in SIZES {
         let n = w * h;
         for code in 0..8usize.pow(n as u32) {
@@ -168,7 +180,7 @@ fn every_kind_of_macroblock(s: &mut Session, thin: &mut Thin) -> Outcome {
                 continue;
             }
             let kinds: Vec<usize> = (0..n).map(|m| code / 8usize.pow(m as u32) % 8).collect();
-            let mut q = kinds_picture(w, h, &kinds);
+            let mut q = kinds_picture(part, w, h, &kinds);
             for m in 0..n {
                 (q.x, q.y) = (m % w, m / w);
                 ask_in_every_way(s, &mut q)?;
@@ -198,10 +210,12 @@ fn ask_in_every_way(s: &mut Session, q: &mut Request) -> Outcome {
 }
 
 /// 0, 1 intra; 2 flat; 3 flat, another picture; 4 uniform with a coefficient; 5 halves; 6 both lists; 7 a
-/// lone far block.
-fn kinds_picture(w: usize, h: usize, kinds: &[usize]) -> Request {
+/// lone far block. What is far is so across, in a field down.
+fn kinds_picture(part: u8, w: usize, h: usize, kinds: &[usize]) -> Request {
     let n = 16 * w * h;
+    let (down, from) = if part == 0 { (0, 4) } else { (1, 2) };
     let mut q = Request::new(Call::Kind, w, h);
+    q.part = part;
     q.inter = vec![0; n].into();
     q.nnz = vec![0; n].into();
     q.ref0 = vec![0; n].into();
@@ -218,14 +232,14 @@ fn kinds_picture(w: usize, h: usize, kinds: &[usize]) -> Request {
         q.ref0[b] = if kind == 3 { 1 } else { 0 };
         q.ref1[b] = if kind == 6 { 1 } else { -1 };
         let far = kind == 5 && x > 1 || kind == 7 && (x, y) == (3, 3);
-        q.mv0[2 * b] = if far { 4 } else { 0 };
+        q.mv0[2 * b + down] = if far { from } else { 0 };
         q.mv1[2 * b + 1] = if kind == 6 { 3 } else { 0 };
     }
     q
 }
 
 /// All quadruples below the four numbers.
-fn product(n: [usize; 4]) -> impl Iterator<Item = (usize, usize, usize, usize)> {
+pub fn product(n: [usize; 4]) -> impl Iterator<Item = (usize, usize, usize, usize)> {
     let [a, b, c, d] = n;
     (0..a * b * c * d).map(move |i| (i / (b * c * d), i / (c * d) % b, i / d % c, i % d))
 }

@@ -1,6 +1,6 @@
 //! What is judged: the archive, or a filter that stands in its place.
 
-use crate::fence::{Field, Side};
+use crate::fence::{Fenced, Side};
 use crate::request::{Call, Request};
 use deblock::{wire, Grids, Offsets, Picture, Place, Size};
 use std::cell::{Cell, RefCell};
@@ -13,12 +13,12 @@ pub trait Subject {
 /// The proved filter. Of three calls one is made between guard elements, two between fences.
 pub struct Archive {
     turn: Cell<usize>,
-    fields: RefCell<[Field; 13]>,
+    fences: RefCell<[Fenced; 13]>,
 }
 
 impl Archive {
     pub fn new() -> Archive {
-        Archive { turn: Cell::new(0), fields: RefCell::new(std::array::from_fn(|_| Field::new())) }
+        Archive { turn: Cell::new(0), fences: RefCell::new(std::array::from_fn(|_| Fenced::new())) }
     }
 }
 
@@ -26,8 +26,8 @@ impl Subject for Archive {
     fn call(&self, r: &mut Request) -> u32 {
         self.turn.set(self.turn.get() + 1);
         let side = [None, Some(Side::Start), Some(Side::End)][self.turn.get() % 3];
-        let mut fields = self.fields.borrow_mut();
-        let [f0, f1, f2, f3, f4, f5, f6, f7, f8, f9, f10, f11, f12] = &mut *fields;
+        let mut fences = self.fences.borrow_mut();
+        let [f0, f1, f2, f3, f4, f5, f6, f7, f8, f9, f10, f11, f12] = &mut *fences;
         let (inter, nnz) = (f0.lend(&mut r.inter, side), f1.lend(&mut r.nnz, side));
         let (ref0, mv0) = (f2.lend(&mut r.ref0, side), f3.lend(&mut r.mv0, side));
         let (ref1, mv1) = (f4.lend(&mut r.ref1, side), f5.lend(&mut r.mv1, side));
@@ -48,16 +48,17 @@ impl Subject for Archive {
             qps: &qps,
             t8s: &t8s,
             marks: &mut marks,
+            ..Picture::default()
         };
         let grids = Grids { inter: &inter, nnz: &nnz, ref0: &ref0, mv0: &mv0, ref1: &ref1, mv1: &mv1 };
         let at = Place { x: r.x, y: r.y };
         match r.call {
-            Call::Kind => wire::strengths_kind(&mut picture, grids, at, r.kind),
-            Call::Flags => wire::strengths_flags(&mut picture, grids, at, [r.flat, r.uniform, r.t8]),
-            Call::Flagless => wire::strengths(&mut picture, grids, at, r.t8),
-            Call::Frame => wire::frame(&mut picture),
-            Call::Rows => wire::rows(&mut picture, r.first, r.last),
-            Call::Visit => wire::visit(&mut picture, at),
+            Call::Kind => wire::strengths_kind(&mut picture, r.part, grids, at, r.kind),
+            Call::Flags => wire::strengths_flags(&mut picture, r.part, grids, at, [r.flat, r.uniform, r.t8]),
+            Call::Flagless => wire::strengths(&mut picture, r.part, grids, at, r.t8),
+            Call::Whole => wire::whole(&mut picture, r.part),
+            Call::Rows => wire::rows(&mut picture, r.part, r.first, r.last),
+            Call::Visit => wire::visit(&mut picture, r.part, at),
         }
     }
 }

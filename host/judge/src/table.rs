@@ -9,10 +9,11 @@ use std::ops::Range;
 
 type Check = fn(&Request) -> bool;
 
-/// No., "given exactly when".
-const TABLE: [(u32, Check); 14] = [
+/// No., "given exactly when", in the order in which they are asked.
+const TABLE: [(u32, Check); 15] = [
     (1, size_out_of_range),
     (2, place_outside),
+    (19, no_such_part),
     (3, plane_of_wrong_length),
     (4, macroblock_grid_of_wrong_length),
     (5, block_grid_of_wrong_length),
@@ -32,6 +33,11 @@ pub fn answer(r: &Request) -> u32 {
     TABLE.iter().find(|(_, applies)| applies(r)).map_or(0, |(number, _)| *number)
 }
 
+/// All numbers that a call may answer, 0 first.
+pub fn numbers() -> impl Iterator<Item = u32> {
+    std::iter::once(0).chain(TABLE.iter().map(|(number, _)| *number))
+}
+
 fn size_out_of_range(r: &Request) -> bool {
     let side = 1..=256;
     !side.contains(&r.w) || !side.contains(&r.h) || r.w * r.h > 36_864
@@ -39,14 +45,20 @@ fn size_out_of_range(r: &Request) -> bool {
 
 fn place_outside(r: &Request) -> bool {
     match r.call {
-        Call::Frame => false,
+        Call::Whole => false,
         Call::Rows => !(r.first <= r.last && r.last <= r.h),
         _ => r.x >= r.w || r.y >= r.h,
     }
 }
 
+/// Strength calls are told whether the picture is a field, not which.
+fn no_such_part(r: &Request) -> bool {
+    !r.call.is_strengths() && r.part > 2
+}
+
+/// Planes are a frame's: for a field they have twice the lengths.
 fn plane_of_wrong_length(r: &Request) -> bool {
-    let n = r.w * r.h;
+    let n = r.w * r.h * r.structure().share();
     !r.call.is_strengths() && (r.luma.len() != 256 * n || r.u.len() != 64 * n || r.v.len() != 64 * n)
 }
 
@@ -121,9 +133,9 @@ fn neighbour_unmarked(r: &Request) -> bool {
 }
 
 /// The macroblocks whose strengths and 8x8 flags a filtering call reads.
-fn macroblocks_read(r: &Request) -> Range<usize> {
+pub fn macroblocks_read(r: &Request) -> Range<usize> {
     match r.call {
-        Call::Frame => 0..r.w * r.h,
+        Call::Whole => 0..r.w * r.h,
         Call::Rows => r.w * r.first..r.w * r.last,
         Call::Visit => r.at()..r.at() + 1,
         _ => 0..0,
@@ -131,7 +143,7 @@ fn macroblocks_read(r: &Request) -> Range<usize> {
 }
 
 /// The macroblocks whose QPs are read: its own, and of a part of the picture those to the left and above.
-fn qps_read(r: &Request) -> Vec<usize> {
+pub fn qps_read(r: &Request) -> Vec<usize> {
     match r.call {
         Call::Rows if 0 < r.first && r.first < r.last => (r.w * (r.first - 1)..r.w * r.last).collect(),
         Call::Visit => neighbours(r, false),
@@ -140,7 +152,7 @@ fn qps_read(r: &Request) -> Vec<usize> {
 }
 
 /// The macroblocks whose marks are read: its own, left, upper, upper right, as far as they exist.
-fn marks_read(r: &Request) -> Vec<usize> {
+pub fn marks_read(r: &Request) -> Vec<usize> {
     if r.call == Call::Visit {
         neighbours(r, true)
     } else {
@@ -197,6 +209,7 @@ fn is_flat(r: &Request) -> bool {
 #[cfg(test)]
 mod tests {
     use super::*;
+    use crate::request::{FILTER_CALLS, STRENGTH_CALLS};
 
     /// A visit of (1, 1) in 3 by 2, ready, to which nothing applies.
     fn visit() -> Request {
@@ -252,7 +265,7 @@ mod tests {
 
     #[test]
     fn each_check_of_a_visit_in_its_order() {
-        // each change is made on top of all before it, and the number falls with each: the earlier check wins
+        // each change is made on top of all before it: the check that is asked earlier wins
         let mut q = visit();
         assert_eq!(answer(&q), 0);
         q.marks[2] = 0;
@@ -271,10 +284,34 @@ mod tests {
         assert_eq!(answer(&q), 4);
         q.v.resize(0, 0);
         assert_eq!(answer(&q), 3);
+        q.part = 3;
+        assert_eq!(answer(&q), 19);
         q.x = 3;
         assert_eq!(answer(&q), 2);
         q.w = 257;
         assert_eq!(answer(&q), 1);
+    }
+
+    #[test]
+    fn a_field_is_lent_the_planes_of_a_frame() {
+        let double = |q: &mut Request| {
+            q.luma.resize(512 * 6, 0);
+            q.u.resize(128 * 6, 0);
+            q.v.resize(128 * 6, 0);
+        };
+        for call in FILTER_CALLS {
+            let parts = [0, 1, 2, 3, 255];
+            let single = parts.map(|part| after(visit(), |q| (q.call, q.part) = (call, part)));
+            assert_eq!(single, [0, 3, 3, 19, 19]);
+            let doubled = |q: &mut Request, part: u8| {
+                double(q);
+                (q.call, q.part) = (call, part);
+            };
+            assert_eq!(parts.map(|part| after(visit(), |q| doubled(q, part))), [3, 0, 0, 19, 19]);
+        }
+        for call in STRENGTH_CALLS {
+            assert_eq!(after(strengths(call), |q| q.part = 255), 0, "a field, and no matter which");
+        }
     }
 
     #[test]
@@ -298,7 +335,7 @@ mod tests {
 
     #[test]
     fn each_check_of_a_strength_call() {
-        for call in [Call::Kind, Call::Flags, Call::Flagless] {
+        for call in STRENGTH_CALLS {
             assert_eq!(answer(&strengths(call)), 0);
             assert_eq!(after(strengths(call), |q| q.w = usize::MAX), 1);
             assert_eq!(after(strengths(call), |q| q.y = usize::MAX), 2);
@@ -337,7 +374,7 @@ mod tests {
 
     #[test]
     fn sizes() {
-        let size = |w: usize, h: usize| size_out_of_range(&Request::new(Call::Frame, w, h));
+        let size = |w: usize, h: usize| size_out_of_range(&Request::new(Call::Whole, w, h));
         assert!(!size(1, 1) && !size(256, 144) && !size(192, 192) && !size(1, 256));
         assert!(size(0, 1) && size(1, 0) && size(257, 1) && size(256, 145) && size(usize::MAX, usize::MAX));
         assert!(size(1 << 32, 1 << 32), "the product wraps to 0");

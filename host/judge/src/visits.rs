@@ -1,66 +1,138 @@
-//! Demand 3: visits in any order, refused ones among them, against the original's picture of just the visited
-//! ones.
+//! Demand 3: visits in any order, refused ones among them, against the picture of just the visited ones in
+//! raster order. The two fields of a frame are two pictures, whose visits come mixed.
 
 use crate::expect::{expect, marked_in_raster_order};
 use crate::make;
-use crate::request::{Call, Request};
+use crate::request::{Call, Request, Structure};
 use crate::session::{Failure, Outcome, Session};
 use crate::table;
 use inputs::Rng;
+use std::mem::swap;
 
-/// A whole picture by visits. Every answer is compared; the planes are compared after every call of a small
-/// picture, and now and then in a large one.
-pub fn sequence(s: &mut Session, r: &mut Rng, w: usize, h: usize) -> Outcome {
-    let mut before = make::picture(r, Call::Visit, w, h);
-    before.marks.fill(0);
-    let order = arrival(r, w, h);
+/// A visit: of which picture, with which part, where.
+#[derive(Clone, Copy, Debug)]
+struct Ask {
+    picture: usize,
+    part: u8,
+    at: (usize, usize),
+}
+
+/// A frame, or the two fields of one: each with strengths, QPs, flags, marks and offsets of its own, over the
+/// same planes, which one of them holds.
+#[derive(Clone)]
+struct Pictures {
+    all: Vec<Request>,
+    holder: usize,
+}
+
+impl Pictures {
+    /// The picture, now with the planes.
+    fn lend(&mut self, picture: usize) -> &mut Request {
+        if picture != self.holder {
+            let [from, to] = self.all.get_disjoint_mut([self.holder, picture]).expect("two of them");
+            swap(&mut from.luma, &mut to.luma);
+            swap(&mut from.u, &mut to.u);
+            swap(&mut from.v, &mut to.v);
+            self.holder = picture;
+        }
+        &mut self.all[picture]
+    }
+
+    /// The request of a visit.
+    fn ask(&mut self, ask: Ask) -> &mut Request {
+        let q = self.lend(ask.picture);
+        (q.part, (q.x, q.y)) = (ask.part, ask.at);
+        q
+    }
+}
+
+/// Whole pictures by visits. Every answer is compared; the planes are compared after every call of small
+/// pictures, and now and then in large ones.
+pub fn sequence(s: &mut Session, r: &mut Rng, of: Structure, w: usize, h: usize) -> Outcome {
+    let all = (0..of.share()).map(|i| {
+        let mut q = make::picture(r, of, Call::Visit, w, h);
+        q.marks.fill(0);
+        q.part = if of == Structure::Frame { 0 } else { 1 + i as u8 };
+        q
+    });
+    let before = Pictures { all: all.collect(), holder: 0 };
+    let order = match of {
+        Structure::Frame => arrival(r, w, h).into_iter().map(|at| Ask { picture: 0, part: 0, at }).collect(),
+        Structure::Field => mixed(r, w, h),
+    };
     follow(s, &before, &order).map_err(|failure| explain(s, &before, &order, failure))
 }
 
-fn follow(s: &mut Session, before: &Request, order: &[(usize, usize)]) -> Outcome {
-    let n = before.w * before.h;
+fn follow(s: &mut Session, before: &Pictures, order: &[Ask]) -> Outcome {
+    let n = before.all[0].marks.len();
     let every = if n <= 36 { 1 } else { n / 5 };
-    let mut q = before.clone();
-    for (i, &(x, y)) in order.iter().enumerate() {
-        (q.x, q.y) = (x, y);
-        let number = table::answer(&q);
-        let mut marks = q.marks.clone();
+    let mut lent = before.clone();
+    let mut marks: Vec<Vec<u8>> = before.all.iter().map(|q| q.marks.to_vec()).collect();
+    for (i, &ask) in order.iter().enumerate() {
+        let q = lent.ask(ask);
+        let number = table::answer(q);
         if number == 0 {
-            marks[q.at()] = 1;
+            marks[ask.picture][q.at()] = 1;
         }
-        s.call("visits", &mut q, number)?;
+        s.call("visits", q, number)?;
         if i % every == 0 || i + 1 == order.len() {
-            compare(s, before, &q, &marks)?;
+            compare(s, before, q, ask.picture, &marks)?;
         }
     }
-    assert!(!q.marks.contains(&0), "the order of visits has every macroblock");
+    assert!(!marks.concat().contains(&0), "the order of visits has every macroblock");
     Ok(())
 }
 
-/// Compares with the picture of just the marked macroblocks in raster order.
-fn compare(s: &mut Session, before: &Request, q: &Request, marks: &[u8]) -> Outcome {
+/// Compares the picture that holds the planes, and so all of them, with the visited ones in raster order.
+fn compare(s: &mut Session, before: &Pictures, q: &Request, picture: usize, marks: &[Vec<u8>]) -> Outcome {
     let mut want = before.clone();
-    marked_in_raster_order(&mut want, marks);
-    want.marks.copy_from_slice(marks);
-    s.note("pictures after visits, compared with the visited ones in raster order");
-    match q.difference(&want) {
+    for (i, marks) in marks.iter().enumerate() {
+        let own = want.lend(i);
+        marked_in_raster_order(own, marks);
+        own.marks.copy_from_slice(marks);
+    }
+    s.note(match before.all[0].structure() {
+        Structure::Frame => "frames after visits, compared with the visited ones in raster order",
+        Structure::Field => "pairs of fields after visits, compared with the visited ones in raster order",
+    });
+    match q.difference(want.lend(picture)) {
         None => Ok(()),
-        Some(what) => Err(Failure(format!("visits: after ({}, {}) of {} by {} {what}", q.x, q.y, q.w, q.h))),
+        Some(what) => {
+            let place = format!("({}, {}) of {} by {}, part {}", q.x, q.y, q.w, q.h, q.part);
+            Err(Failure(format!("visits: after {place}: {what}")))
+        }
     }
 }
 
 /// Looks for a single visit of the sequence that is wrong by itself: such a case can be made small.
-fn explain(s: &mut Session, before: &Request, order: &[(usize, usize)], failure: Failure) -> Failure {
+fn explain(s: &mut Session, before: &Pictures, order: &[Ask], failure: Failure) -> Failure {
     const PATIENCE: usize = 2000;
-    let mut q = before.clone();
-    for &(x, y) in order.iter().filter(|_| before.marks.len() <= PATIENCE) {
-        (q.x, q.y) = (x, y);
-        if let Err(single) = s.check("visits", &q) {
+    let mut lent = before.clone();
+    for &ask in order.iter().filter(|_| before.all[0].marks.len() <= PATIENCE) {
+        let q = lent.ask(ask);
+        if let Err(single) = s.check("visits", q) {
             return single;
         }
-        expect(&mut q);
+        expect(q);
     }
     Failure(format!("{failure}\nno single visit is wrong by itself; the order was {order:?}"))
+}
+
+/// Orders of both fields, one after the other or mixed, with visits among them whose part is none, or is the
+/// frame, which planes of twice the length are not.
+fn mixed(r: &mut Rng, w: usize, h: usize) -> Vec<Ask> {
+    let mut orders = [arrival(r, w, h), arrival(r, w, h)].map(|order| order.into_iter().peekable());
+    let in_turn = r.once_in(4);
+    let mut all = Vec::new();
+    while orders.iter_mut().any(|order| order.peek().is_some()) {
+        let picture = if in_turn { orders[0].peek().is_none().into() } else { r.below(2) };
+        let part = 1 + picture as u8;
+        if r.once_in(8) {
+            all.push(Ask { picture, part: r.pick(&[0, 3, 255]), at: (r.below(w), r.below(h)) });
+        }
+        all.extend(orders[picture].next().map(|at| Ask { picture, part, at }));
+    }
+    all
 }
 
 /// An order of visits that marks everything, with visits among them that are refused: not ready, again,

@@ -1,10 +1,11 @@
 //! The planes of a replay beside the recorder's. A macroblock counts once it is final.
 
 use crate::differences::Differences;
-use crate::orders::raster;
+use crate::part;
 use crate::raw::samples;
 use crate::recording::Recording;
 use crate::station::Station;
+use deblock::Part;
 
 /// The worse comes later.
 #[derive(Clone, Copy, PartialEq, Eq, PartialOrd, Ord, Debug)]
@@ -42,33 +43,43 @@ impl Counts {
     }
 }
 
-pub struct Beside {
-    pub counts: Counts,
+/// The frame, or each of its fields.
+pub struct Beside(Vec<Compared>);
+
+struct Compared {
+    part: Part,
+    counts: Counts,
     differences: Differences,
 }
 
 impl Beside {
     pub fn of(r: &Recording, end: &Station) -> Beside {
-        let all = samples(end.picture.view(), r.after.view());
-        let differences = Differences::of(all.filter(|s| end.is_final(s.column, s.row)));
-        let finals = raster(r.before.size).iter().filter(|p| end.is_final(p.x, p.y)).count();
-        let (all, unvisited) = (end.marks.len(), end.unvisited());
-        let counts = Counts { all, unvisited, finals, equal: finals - differences.macroblocks() };
-        Beside { counts, differences }
+        let compared = end.arrived.iter().map(|own| {
+            let part = own.part();
+            let all = samples(part, end.picture.view(), r.after.view());
+            let differences = Differences::of(all.filter(|s| own.is_final(s.column, s.row)));
+            let finals = r.before.size.places().filter(|p| own.is_final(p.x, p.y)).count();
+            let (all, unvisited) = (own.marks.len(), own.unvisited());
+            let counts = Counts { all, unvisited, finals, equal: finals - differences.macroblocks() };
+            Compared { part, counts, differences }
+        });
+        Beside(compared.collect())
     }
 
+    /// The worst.
     pub fn verdict(&self) -> Verdict {
-        match (self.differences.is_empty(), self.counts.unvisited) {
-            (true, 0) => Verdict::Equal,
-            (true, _) => Verdict::Incomplete,
-            (false, _) => Verdict::Different,
-        }
+        self.0.iter().map(Compared::verdict).max().unwrap_or(Verdict::Equal)
+    }
+
+    pub fn counts(&self) -> Counts {
+        let mut sum = Counts::default();
+        self.0.iter().for_each(|own| sum.add(&own.counts));
+        sum
     }
 
     /// What differs, what was never visited, or that all is equal.
     pub fn lines(&self) -> Vec<String> {
-        let mut lines = if self.differences.is_empty() { Vec::new() } else { self.differences.at_length() };
-        lines.extend(self.counts.in_words());
+        let mut lines: Vec<String> = self.0.iter().flat_map(Compared::lines).collect();
         if lines.is_empty() {
             lines.push("planes as the recorder's".into());
         }
@@ -76,29 +87,61 @@ impl Beside {
     }
 }
 
+impl Compared {
+    fn verdict(&self) -> Verdict {
+        match (self.differences.is_empty(), self.counts.unvisited) {
+            (true, 0) => Verdict::Equal,
+            (true, _) => Verdict::Incomplete,
+            (false, _) => Verdict::Different,
+        }
+    }
+
+    /// What differs and what was never visited.
+    fn lines(&self) -> Vec<String> {
+        let mut lines = if self.differences.is_empty() { Vec::new() } else { self.differences.at_length() };
+        lines.extend(self.counts.in_words());
+        lines.into_iter().map(|line| part::told(self.part, line)).collect()
+    }
+}
+
 #[cfg(test)]
 mod tests {
     use super::*;
-    use crate::recording::tests::{good, parse};
+    use crate::orders::{raster, Request};
+    use crate::part::FIELDS;
+    use crate::recording::tests::{changed, fields, good, parse};
     use crate::station::replay;
-    use deblock::Place;
+    use deblock::Size;
 
-    fn verdict(order: &[Place], last: u8) -> (Verdict, Vec<String>) {
-        let mut bytes = good();
-        bytes[14 + 767] = last;
-        let r = parse(&bytes).expect("a good recording");
+    const SIZE: Size = Size { w: 1, h: 1 };
+
+    fn verdict(recording: &[u8], order: &[Request]) -> (Verdict, Vec<String>) {
+        let r = parse(recording).expect("a good recording");
         let beside = Beside::of(&r, &replay(&r.before, &r.settings, order, true));
         (beside.verdict(), beside.lines())
     }
 
     #[test]
     fn equal_incomplete_and_different() {
-        let visit = [Place { x: 0, y: 0 }];
-        assert_eq!(verdict(&visit, 100), (Verdict::Equal, vec!["planes as the recorder's".into()]));
+        let (visit, wrong) = (raster(&[Part::Frame], SIZE), changed(good(), 14 + 767, 101));
+        assert_eq!(verdict(&good(), &visit), (Verdict::Equal, vec!["planes as the recorder's".into()]));
         let never = "never visited: 1 of 1 macroblocks; final: 0, as the recorder's: 0".to_string();
-        assert_eq!(verdict(&[], 101), (Verdict::Incomplete, vec![never]));
-        let (worst, lines) = verdict(&visit, 101);
+        assert_eq!(verdict(&wrong, &[]), (Verdict::Incomplete, vec![never]));
+        let (worst, lines) = verdict(&wrong, &visit);
         assert_eq!((worst, lines.last().map(String::as_str)), (Verdict::Different, Some("V at (7, 7): 100 and 101")));
+    }
+
+    /// The last sample of V after the filter, on line 15 of the frame, is in the bottom field.
+    #[test]
+    fn a_field_is_named() {
+        let visits = raster(&FIELDS, SIZE);
+        assert_eq!(verdict(&fields(), &visits), (Verdict::Equal, vec!["planes as the recorder's".into()]));
+        let wrong = changed(fields(), 14 + 2 * 768 - 1, 101);
+        let never = "bottom field: never visited: 1 of 1 macroblocks; final: 0, as the recorder's: 0".to_string();
+        assert_eq!(verdict(&wrong, &visits[..1]), (Verdict::Incomplete, vec![never]));
+        let (worst, lines) = verdict(&wrong, &visits);
+        assert!(worst == Verdict::Different && lines.iter().all(|line| line.starts_with("bottom field: ")));
+        assert_eq!(lines.last().map(String::as_str), Some("bottom field: V at (7, 7): 100 and 101"));
     }
 
     #[test]

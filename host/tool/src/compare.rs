@@ -8,6 +8,7 @@ use crate::raw::{samples, Extent, Raw};
 use crate::say::counted;
 use crate::trouble::Trouble;
 use crate::Outcome;
+use deblock::Part;
 use std::path::Path;
 
 /// `extent` is that of raw planes; the first difference goes to `image`.
@@ -58,7 +59,7 @@ impl Comparison {
             self.differs(format!("in the size of picture {number}"));
             return Ok(());
         }
-        let found = Differences::of(samples(a.view(), b.view()));
+        let found = Differences::of(samples(Part::Frame, a.view(), b.view()));
         let Some(macroblock) = found.first() else {
             self.equal += 1;
             return Ok(());

@@ -13,6 +13,7 @@ mod image;
 mod options;
 mod orderfile;
 mod orders;
+mod part;
 mod picture;
 mod pictures;
 mod png;
@@ -23,6 +24,7 @@ mod recordings;
 mod replay;
 mod source;
 mod station;
+mod strengths;
 mod trouble;
 #[cfg(test)]
 mod version;

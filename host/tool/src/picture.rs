@@ -1,18 +1,21 @@
 //! Pictures as the filter takes them: three planes, and what is lent with them.
 
+use crate::part;
 use crate::raw::{samples, Sample, View};
-use deblock::{Offsets, Place, Size};
+use deblock::{Offsets, Part, Place, Size};
 
 #[derive(Clone, PartialEq, Eq)]
 pub struct Picture {
+    /// As the calls take it: that of one field where the planes have the lines of two.
     pub size: Size,
     pub luma: Vec<u8>,
     pub u: Vec<u8>,
     pub v: Vec<u8>,
 }
 
-/// What filtering a picture needs beside its planes.
+/// What filtering a frame or a field needs beside the planes.
 pub struct Settings {
+    pub part: Part,
     pub offsets: Offsets,
     pub strengths: Vec<u8>,
     pub qps: Vec<u8>,
@@ -20,15 +23,11 @@ pub struct Settings {
 }
 
 impl Picture {
-    /// The planes of a picture end to end, as a recording has them; none if there are not just as many bytes.
-    pub fn from_planes(size: Size, bytes: &[u8]) -> Option<Picture> {
-        let n = size.w * size.h;
-        if bytes.len() != 384 * n {
-            return None;
-        }
-        let (luma, chroma) = bytes.split_at(256 * n);
-        let (u, v) = chroma.split_at(64 * n);
-        Some(Picture { size, luma: luma.to_vec(), u: u.to_vec(), v: v.to_vec() })
+    /// The planes end to end, as a recording has them: two thirds of the samples are luma's.
+    pub fn from_planes(size: Size, bytes: &[u8]) -> Picture {
+        let (luma, chroma) = bytes.split_at(bytes.len() / 3 * 2);
+        let (u, v) = chroma.split_at(chroma.len() / 2);
+        Picture { size, luma: luma.to_vec(), u: u.to_vec(), v: v.to_vec() }
     }
 
     /// The picture as calls take it. Strengths are those of `settings`, or others: calls may write them.
@@ -39,8 +38,8 @@ impl Picture {
         marks: &'a mut [u8],
     ) -> deblock::Picture<'a> {
         let Picture { size, luma, u, v } = self;
-        let Settings { offsets, qps, t8s, .. } = settings;
-        deblock::Picture { size: *size, offsets: *offsets, luma, u, v, strengths, qps, t8s, marks }
+        let Settings { part, offsets, qps, t8s, .. } = settings;
+        deblock::Picture { size: *size, part: *part, offsets: *offsets, luma, u, v, strengths, qps, t8s, marks }
     }
 
     /// Another sample in every place.
@@ -50,13 +49,14 @@ impl Picture {
     }
 
     /// Takes the samples of one macroblock from another picture of the same size.
-    pub fn take_macroblock(&mut self, from: &Picture, at: Place) {
+    pub fn take_macroblock(&mut self, from: &Picture, part: Part, at: Place) {
         let w = self.size.w;
+        let (first, step) = part::lines(part);
         let planes = [(&mut self.luma, &from.luma, 16), (&mut self.u, &from.u, 8), (&mut self.v, &from.v, 8)];
         for (to, from, side) in planes {
-            let first = side * (at.y * side * w + at.x);
-            for row in (0..side).map(|row| first + row * side * w) {
-                to[row..row + side].copy_from_slice(&from[row..row + side]);
+            for line in (0..side).map(|row| first + step * (side * at.y + row)) {
+                let start = side * (line * w + at.x);
+                to[start..start + side].copy_from_slice(&from[start..start + side]);
             }
         }
     }
@@ -70,11 +70,11 @@ impl Picture {
     }
 
     pub fn height(&self) -> usize {
-        16 * self.size.h
+        self.luma.len() / self.width()
     }
 }
 
 /// All samples in which two pictures of one size differ.
 pub fn differences(a: &Picture, b: &Picture) -> Vec<Sample> {
-    samples(a.view(), b.view()).collect()
+    samples(Part::Frame, a.view(), b.view()).collect()
 }

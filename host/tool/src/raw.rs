@@ -1,6 +1,8 @@
 //! Pictures of any even size, for comparing: three planes, Y, U and V, and how two pictures differ.
 
+use crate::part;
 use crate::picture::Picture;
+use deblock::Part;
 
 /// Width and height in pixels, which are even.
 #[derive(Clone, Copy, PartialEq, Eq, Debug)]
@@ -50,7 +52,7 @@ pub struct View<'a> {
     pub planes: [&'a [u8]; 3],
 }
 
-/// A sample that two pictures have differently.
+/// A sample that two pictures have differently. In a field all is counted in the field's own lines.
 #[derive(Clone, Copy)]
 pub struct Sample {
     pub plane: char,
@@ -69,14 +71,16 @@ impl Sample {
     }
 }
 
-/// All samples in which two pictures of one size differ.
-pub fn samples<'a>(a: View<'a>, b: View<'a>) -> impl Iterator<Item = Sample> + 'a {
+/// All samples in which two pictures of one size differ, or two fields.
+pub fn samples<'a>(part: Part, a: View<'a>, b: View<'a>) -> impl Iterator<Item = Sample> + 'a {
+    let (first, step) = part::lines(part);
     let in_plane = move |(p, plane): (usize, char)| {
         let (width, side) = if p == 0 { (a.width, 16) } else { (a.width / 2, 8) };
         let pairs = a.planes[p].iter().zip(b.planes[p]).enumerate();
-        pairs.filter(|(_, (here, there))| here != there).map(move |(i, (&here, &there))| {
-            let (x, y) = (i % width, i / width);
-            Sample { plane, x, y, here, there, column: x / side, row: y / side }
+        pairs.filter(|(_, (here, there))| here != there).filter_map(move |(i, (&here, &there))| {
+            let (x, line) = (i % width, i / width);
+            let y = line / step;
+            (line % step == first).then_some(Sample { plane, x, y, here, there, column: x / side, row: y / side })
         })
     };
     "YUV".chars().enumerate().flat_map(in_plane)
@@ -96,7 +100,22 @@ mod tests {
             bytes[at] = 7;
         }
         let b = Raw::from_bytes(extent, bytes);
-        let found: Vec<_> = samples(a.view(), b.view()).map(|s| (s.plane, s.x, s.y, s.column, s.row)).collect();
+        let found = samples(Part::Frame, a.view(), b.view()).map(|s| (s.plane, s.x, s.y, s.column, s.row));
+        let found: Vec<_> = found.collect();
         assert_eq!(found, [('Y', 17, 0, 1, 0), ('Y', 17, 33, 1, 2), ('U', 8, 0, 1, 0), ('V', 0, 16, 0, 2)]);
+    }
+
+    /// Of each plane the first line, the second and the last: two lines of the bottom field.
+    #[test]
+    fn the_lines_of_a_field() {
+        let extent = Extent { width: 16, height: 64 };
+        let (a, mut b) = (Raw::from_bytes(extent, vec![9; 1536]), Raw::from_bytes(extent, vec![9; 1536]));
+        for (plane, width) in b.planes.iter_mut().zip([16, 8, 8]) {
+            [0, width, plane.len() - 1].into_iter().for_each(|at| plane[at] = 7);
+        }
+        let of = |part: Part| samples(part, a.view(), b.view()).map(|s| (s.x, s.y, s.row)).collect::<Vec<_>>();
+        let [top, bottom] = crate::part::FIELDS.map(of);
+        assert_eq!(top, [(0, 0, 0); 3]);
+        assert_eq!(bottom, [(0, 0, 0), (15, 31, 1), (0, 0, 0), (7, 15, 1), (0, 0, 0), (7, 15, 1)]);
     }
 }

@@ -1,9 +1,10 @@
 //! Reads recordings (crates/recordings/FORMAT.md), saying where a damaged file is damaged.
 
+use crate::part::FIELDS;
 use crate::picture::{Picture, Settings};
 use crate::source::Source;
 use crate::trouble::Trouble;
-use deblock::{Grids, Offsets, Size};
+use deblock::{Grids, Offsets, Part, Size};
 
 pub const MAGIC: &[u8] = b"DBV1";
 
@@ -11,9 +12,10 @@ pub struct Recording {
     pub before: Picture,
     /// What the recorder made of it.
     pub after: Picture,
-    pub settings: Settings,
-    /// None where the strengths are of no grids.
-    pub grids: Option<BlockGrids>,
+    /// Of the frame, or of its top field and its bottom field.
+    pub settings: Vec<Settings>,
+    /// Likewise; empty where the strengths are of no grids.
+    pub grids: Vec<BlockGrids>,
 }
 
 pub struct BlockGrids {
@@ -32,9 +34,10 @@ impl BlockGrids {
     }
 }
 
-/// What the parts of a recording depend on.
+/// What the other bytes of a recording depend on.
 struct Header {
     size: Size,
+    parts: &'static [Part],
     flags: u8,
     chroma: i32,
 }
@@ -51,17 +54,37 @@ impl Recording {
     /// Reads the parts in the order of FORMAT.md.
     pub fn read(s: &mut Source) -> Result<Recording, Trouble> {
         let header = header(s)?;
-        let Header { size, flags, chroma } = header;
-        let n = size.w * size.h;
-        let before = planes(s, size, "the planes before")?;
-        let after = planes(s, size, "the planes after")?;
+        let before = planes(s, &header, "the planes before")?;
+        let after = planes(s, &header, "the planes after")?;
+        let mut recording = Recording { before, after, settings: Vec::new(), grids: Vec::new() };
+        for &part in header.parts {
+            recording.read_settings(s, &header, part).map_err(|trouble| trouble.within(part))?;
+        }
+        Ok(recording)
+    }
+
+    /// Reads settings and grids of the frame or of one field.
+    fn read_settings(&mut self, s: &mut Source, header: &Header, part: Part) -> Result<(), Trouble> {
+        let Header { size, flags, chroma, .. } = *header;
+        let n = size.macroblocks();
         let offsets = Offsets { a: offset(s, "offset A")?, b: offset(s, "offset B")?, chroma };
         let qps = s.checked(n, "the QPs", |b| b <= 51)?;
         let t8s = s.checked(if flags & T8 != 0 { n } else { 0 }, "the 8x8 flags", |b| b <= 1)?;
-        let grids = if flags & NO_GRIDS != 0 { None } else { Some(block_grids(s, 16 * n, flags)?) };
+        if flags & NO_GRIDS == 0 {
+            self.grids.push(block_grids(s, 16 * n, flags)?);
+        }
         let strengths = s.checked(32 * n, "the strengths", |b| b <= 4)?;
-        let settings = Settings { offsets, strengths, qps, t8s };
-        Ok(Recording { before, after, settings, grids })
+        self.settings.push(Settings { part, offsets, strengths, qps, t8s });
+        Ok(())
+    }
+
+    /// The frame, or its two fields.
+    pub fn parts(&self) -> Vec<Part> {
+        self.settings.iter().map(|s| s.part).collect()
+    }
+
+    pub fn has_fields(&self) -> bool {
+        self.parts() == FIELDS
     }
 }
 
@@ -81,7 +104,6 @@ fn header(s: &mut Source) -> Result<Header, Trouble> {
     let of_v = offset(s, "the chroma offset of V")?;
     let beyond = [
         (depth != 8, 8, "10-bit samples"),
-        (pictures != 1, 9, "fields"),
         (flags & SLICES != 0, 10, "slices"),
         (flags & TABLES != 0, 10, "reference tables"),
         (chroma != of_v, 11, "a chroma offset for U and another for V"),
@@ -91,16 +113,17 @@ fn header(s: &mut Source) -> Result<Header, Trouble> {
         return Err(s.trouble(start + at, format!("the recording has {what}, which this tool does not take")));
     }
     s.byte("the reserved byte", |b| b == 0)?;
-    Ok(Header { size, flags, chroma })
+    let parts: &[Part] = if pictures == 2 { &FIELDS } else { &[Part::Frame] };
+    Ok(Header { size, parts, flags, chroma })
 }
 
 fn offset(s: &mut Source, what: &str) -> Result<i32, Trouble> {
     Ok(i32::from(s.byte(what, |b| (-12..=12).contains(&(b as i8)))? as i8))
 }
 
-fn planes(s: &mut Source, size: Size, what: &str) -> Result<Picture, Trouble> {
-    let bytes = s.take(384 * size.w * size.h, what)?;
-    Ok(Picture::from_planes(size, &bytes).expect("just as many bytes"))
+fn planes(s: &mut Source, header: &Header, what: &str) -> Result<Picture, Trouble> {
+    let bytes = s.take(384 * header.size.macroblocks() * header.parts.len(), what)?;
+    Ok(Picture::from_planes(header.size, &bytes))
 }
 
 fn block_grids(s: &mut Source, blocks: usize, flags: u8) -> Result<BlockGrids, Trouble> {

@@ -43,7 +43,7 @@ impl Recordings {
         }
         let recording = Recording::read(&mut self.source)?;
         self.read += 1;
-        self.no_grids = recording.grids.is_none();
+        self.no_grids = recording.grids.is_empty();
         Ok(Some(recording))
     }
 
@@ -84,7 +84,7 @@ pub fn files(named: &Path) -> Result<Vec<PathBuf>, Trouble> {
 #[cfg(test)]
 mod tests {
     use super::*;
-    use crate::recording::tests::good;
+    use crate::recording::tests::{changed, fields, good};
 
     fn said(bytes: Vec<u8>) -> (usize, String) {
         let mut all = Recordings::new(Source::new(Path::new("x.dbvs"), std::io::Cursor::new(bytes)));
@@ -97,6 +97,7 @@ mod tests {
     fn recordings_stand_end_to_end() {
         let one = good();
         assert_eq!(said(one.repeat(3)), (3, String::new()));
+        assert_eq!(said([&one[..], &fields(), &one].concat()), (3, String::new()));
         let (read, what) = said([&one[..], &one[..20]].concat());
         assert!(read == 1 && what.starts_with(&format!("x.dbvs: at byte {}: the planes before", one.len() + 14)));
         let (read, what) = said([&one[..], b"DBV"].concat());
@@ -108,9 +109,8 @@ mod tests {
     /// A file in which flag 16 means something else has grids where ours has strengths.
     #[test]
     fn flag_16_is_named_where_something_follows() {
-        let mut other = good();
-        other[10] = 16;
-        assert!(said(other).1.contains("recording 1 ends here (it has flag 16, so no grids), and what follows"));
+        let (_, what) = said(changed(good(), 10, 16));
+        assert!(what.contains("recording 1 ends here (it has flag 16, so no grids), and what follows"));
     }
 
     #[test]

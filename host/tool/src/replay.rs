@@ -67,9 +67,10 @@ impl Tour {
         self.pictures[report.verdict as usize] += 1;
         self.telling += usize::from(check::shows_the_fault(r));
         let name = number.map(|n| format!(", picture {n}")).unwrap_or_default();
-        let grids = if r.grids.is_some() { "" } else { ", no grids" };
+        let grids = if r.grids.is_empty() { ", no grids" } else { "" };
+        let fields = if r.has_fields() { "two fields of " } else { "" };
         let (w, h, verdict) = (r.before.size.w, r.before.size.h, in_words(report.verdict));
-        println!("{}{name}: {w} by {h} macroblocks{grids}: {verdict}", file.display());
+        println!("{}{name}: {fields}{w} by {h} macroblocks{grids}: {verdict}", file.display());
         if report.verdict != Verdict::Equal || self.alone && number.is_none() {
             report.lines.iter().for_each(|line| println!("  {line}"));
         }

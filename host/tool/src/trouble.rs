@@ -1,5 +1,7 @@
 //! What stops the tool: which file, where in it, and what is wrong.
 
+use crate::part;
+use deblock::Part;
 use std::fmt;
 use std::fs::File;
 use std::io::{self, Write};
@@ -19,6 +21,12 @@ impl Trouble {
 
     pub fn at_byte(file: &Path, offset: usize, what: impl fmt::Display) -> Trouble {
         Trouble(format!("{}: at byte {offset}: {what}", file.display()))
+    }
+
+    /// The same, and in which field.
+    pub fn within(self, part: Part) -> Trouble {
+        let field = part::name(part).map(|field| format!(", in the {field}"));
+        Trouble(self.0 + &field.unwrap_or_default())
     }
 
     pub fn at_line(file: &Path, line: usize, what: impl fmt::Display) -> Trouble {

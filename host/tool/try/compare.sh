@@ -1,8 +1,5 @@
 # compare: recordings, and raw planes of a size that is no multiple of 16
 
-# change FILE OFFSET: a 7 at this place of the file
-change() { printf '\007' | dd of="$1" bs=1 seek="$2" conv=notrunc 2>/dev/null; }
-
 picture=$((18 * 34 * 3 / 2))
 head -c $((3 * picture)) /dev/zero >"$work/a.yuv"
 cp "$work/a.yuv" "$work/b.yuv"

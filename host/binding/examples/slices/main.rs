@@ -134,7 +134,7 @@ impl Station {
         derive_all(&mut whole)?;
         let mut rows = whole.clone();
         filter_rows(&mut rows)?;
-        whole.lend().0.frame().ok()?;
+        whole.lend().0.whole().ok()?;
         must(rows.planes == whole.planes, "rows from the top give other planes")?;
         must(self.buffers.planes == whole.planes, "visits give other planes")?;
         must(self.screen == whole.planes, "the screen is not as the planes are")

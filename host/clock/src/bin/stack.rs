@@ -4,7 +4,7 @@
 //! that is not the paint tells how deep it went; a thread that calls nothing tells what of that is the
 //! thread's own. Twice, with two paints, since a byte that the call wrote may look like one.
 
-use deblock::{Flags, Grids, Kind, Picture, Place, Size};
+use deblock::{Flags, Grids, Kind, Part, Picture, Place, Size};
 use std::ffi::c_void;
 use std::mem::MaybeUninit;
 
@@ -65,35 +65,42 @@ const QPS: [u8; 4] = [40; 4];
 
 /// Memory for a picture of two by two macroblocks in which every edge that exists is filtered in both passes.
 struct Memory {
+    part: Part,
     planes: [Vec<u8>; 3],
     strengths: Vec<u8>,
     marks: [u8; 4],
 }
 
 impl Memory {
-    fn new() -> Memory {
-        let side = |n: usize| (0..4 * n * n).map(|i| (90 + i % 9) as u8).collect();
-        Memory { planes: [side(16), side(8), side(8)], strengths: [4, 3, 2, 1].repeat(32), marks: [0; 4] }
+    /// The planes of a field are those of its frame.
+    fn new(part: Part) -> Memory {
+        let times = if part == Part::Frame { 4 } else { 8 };
+        let side = |n: usize| (0..times * n * n).map(|i| (90 + i % 9) as u8).collect();
+        Memory { part, planes: [side(16), side(8), side(8)], strengths: [4, 3, 2, 1].repeat(32), marks: [0; 4] }
     }
 
     fn lent(&mut self) -> Picture<'_> {
-        let Memory { planes: [luma, u, v], strengths, marks } = self;
-        Picture { size: SIZE, luma, u, v, strengths, qps: &QPS, marks, ..Picture::default() }
+        let Memory { part, planes: [luma, u, v], strengths, marks } = self;
+        Picture { size: SIZE, part: *part, luma, u, v, strengths, qps: &QPS, marks, ..Picture::default() }
     }
 }
 
 fn main() {
     let idle = deepest(|| ());
-    let show = |name: &str, bytes: usize| println!("{name:<28}{:>6}", bytes - idle);
+    let show = |name: &str, bytes: usize| println!("{name:<30}{:>6}", bytes - idle);
     println!("bytes of stack touched, beyond a thread that calls nothing");
-    filtering(&show);
-    strengths(&show);
+    for (part, of) in [(Part::Frame, ""), (Part::BottomField, " of a field")] {
+        let show = |name: &str, bytes: usize| show(&format!("{name}{of}"), bytes);
+        filtering(&show, part);
+        strengths(&show, part);
+    }
+    show("the Rust's whole picture", original());
 }
 
-fn filtering(show: &dyn Fn(&str, usize)) {
-    let mut memory = Memory::new();
+fn filtering(show: &dyn Fn(&str, usize), part: Part) {
+    let mut memory = Memory::new(part);
     let mut p = memory.lent();
-    show("whole picture", deepest(|| assert!(p.frame().is_done())));
+    show("whole picture", deepest(|| assert!(p.whole().is_done())));
     show("rows", deepest(|| assert!(p.rows(0..2).is_done())));
     show("visit", {
         deepest(|| {
@@ -101,20 +108,22 @@ fn filtering(show: &dyn Fn(&str, usize)) {
             assert!(p.visit(LAST).is_done());
         })
     });
-    let stored = oracle::Stored::new(SIZE.w, SIZE.h, &memory.strengths, &QPS, &[]);
-    show("the Rust's whole picture", {
-        deepest(|| {
-            let [luma, u, v] = &mut memory.planes;
-            stored.filter_frame(oracle::Planes { luma, u, v }, oracle::Offsets { a: 0, b: 0, chroma: 0 });
-        })
-    });
 }
 
-fn strengths(show: &dyn Fn(&str, usize)) {
+fn original() -> usize {
+    let Memory { planes: [mut luma, mut u, mut v], strengths, .. } = Memory::new(Part::Frame);
+    let stored = oracle::Stored::new(SIZE.w, SIZE.h, &strengths, &QPS, &[]);
+    deepest(|| {
+        let planes = oracle::Planes { luma: &mut luma, u: &mut u, v: &mut v };
+        stored.filter_frame(planes, oracle::Offsets { a: 0, b: 0, chroma: 0 });
+    })
+}
+
+fn strengths(show: &dyn Fn(&str, usize), part: Part) {
     let (inter, nnz, ref0, ref1) = ([1; 64], [0; 64], [5; 64], [6; 64]);
     let mv0: Vec<i16> = (0..128).collect();
     let grids = Grids { inter: &inter, nnz: &nnz, ref0: &ref0, mv0: &mv0, ref1: &ref1, mv1: &mv0 };
-    let mut memory = Memory::new();
+    let mut memory = Memory::new(part);
     let mut p = memory.lent();
     show("strengths by kind", deepest(|| assert!(p.derive_by_kind(grids, LAST, Kind::Inter).is_done())));
     show("strengths by flags", deepest(|| assert!(p.derive_by_flags(grids, LAST, Flags::default()).is_done())));

@@ -3,7 +3,7 @@
 use super::rows::Rust::{CannotBeLent, Does, DoesInRelease};
 use super::rows::{
     around_block_0, flagless, frame, kind, row, rows, two, two_lists, visit, whole_chroma, whole_lists, with, Row,
-    ALL_0, EACH_ALONE, INNER_3, NOTHING, NO_VISITS, PANICS,
+    ALL_0, EACH_ALONE, INNER_3, NOTHING, NO_FIELDS, NO_VISITS, PANICS,
 };
 use super::{edge, inter, intra, original, picture, strengths};
 use crate::request::{Call, Request};
@@ -119,6 +119,13 @@ pub const LENGTHS: &[Row] = &[
             ("filters luma", |seen| seen.luma_as(whole_chroma) && !seen.luma_stays()),
             ("then panics", |seen| seen.panics() && seen.chroma_stays()),
         ]),
+    ),
+    row(
+        3,
+        "luma of 256 samples, U and V of 64, for a field of one macroblock",
+        frame,
+        &[|q| q.part = 1, |q| q.part = 2],
+        NO_FIELDS,
     ),
     row(
         4,

@@ -23,6 +23,7 @@ pub enum Rust {
 }
 
 pub const NO_VISITS: Rust = Rust::CannotBeLent("it has no visits");
+pub const NO_FIELDS: Rust = Rust::CannotBeLent("it has no field pictures");
 pub const NOTHING: Claim = ("does nothing", Seen::nothing);
 pub const PANICS: Claim = ("panics", Seen::panics);
 pub const ALL_0: Claim = ("all 0", |seen| seen.own == Some([0; 32]));

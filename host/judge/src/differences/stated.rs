@@ -106,6 +106,16 @@ pub const STATED: &[Stated] = &[
         elsewhere: "the Rust has no bounds, and filters it",
         holds: sizes,
     },
+    Stated {
+        what: "field pictures",
+        input: "in a field, a macroblock under an intra one; a vector (0, 2) under (0, 0)",
+        here: "3 and 1 on the edge between them, as the standard; a field is filtered as a picture of its own, on \
+               every second line of its frame's planes",
+        elsewhere: "the Rust has no field pictures; in a frame both have 4 and 0 there. Of fields demand 2 rests on \
+                    the standard (ITU-T H.264 clause 8.7) and on a model of it in `host/judge`, and recordings of a \
+                    real decoder confirm it",
+        holds: fields,
+    },
 ];
 
 /// What the call leaves, if the archive takes it and the original leaves the same.
@@ -276,4 +286,28 @@ fn sizes(archive: &Archive) -> bool {
     let mut after = q.clone();
     let seen = original(&q);
     archive.call(&mut after) == 1 && after == q && seen.ended && !seen.luma_stays()
+}
+
+/// On the edge between two macroblocks, one above the other, and by the lines that a field's call changes.
+fn fields(archive: &Archive) -> bool {
+    let between = |part: u8, change: fn(&mut Request)| {
+        let mut q = inter(Call::Flagless, 1, 2);
+        change(&mut q);
+        let frame = own(archive, &q)?[16];
+        q.part = part;
+        (archive.call(&mut q) == 0).then(|| [frame, q.strengths[48]])
+    };
+    let changes = |part: u8| {
+        let q = Request { part, luma: picture(1, 2).luma, u: picture(1, 2).u, v: picture(1, 2).v, ..picture(1, 1) };
+        let mut after = q.clone();
+        let number = archive.call(&mut after);
+        let line = |y: usize| 16 * y..16 * y + 16;
+        let parity = |parity: usize| (parity..32).step_by(2).any(|y| after.luma[line(y)] != q.luma[line(y)]);
+        (number, [parity(0), parity(1)])
+    };
+    [1, 2].into_iter().all(|part| {
+        between(part, |q| q.inter[..16].fill(0)) == Some([4, 3])
+            && between(part, |q| (16..32).for_each(|block| q.mv0[2 * block + 1] = 2)) == Some([0, 1])
+            && changes(part) == (0, [part == 1, part == 2])
+    })
 }

@@ -1,9 +1,10 @@
-//! The smallest inputs of refusals 6 to 14, a value that is read, and what the original does with them.
+//! The smallest inputs of refusals 6 to 14, a value that is read, and of 19, and what the original does with
+//! them.
 
 use super::rows::Rust::{CannotBeLent, Does, DoesInRelease};
 use super::rows::{
     around_block_0, below, beside, flagless, flags, frame, kind, neighbours, no_references, row, turned, two, unlisted,
-    visit, with, Row, ALL_0, INNER_3, NO_VISITS,
+    visit, with, Row, ALL_0, INNER_3, NO_FIELDS, NO_VISITS,
 };
 use super::{edge, inter, intra, original, Seen};
 use crate::request::Call;
@@ -267,4 +268,5 @@ pub const VALUES: &[Row] = &[
         &[|q| q.marks[0] = 0],
         NO_VISITS,
     ),
+    row(19, "part 3, which is neither the frame nor one of its fields", frame, &[|q| q.part = 3], NO_FIELDS),
 ];

@@ -7,7 +7,7 @@ use crate::orders;
 use crate::picture::{differences, Picture, Settings};
 use crate::progress::Progress;
 use crate::station::{old_rule, replay};
-use deblock::{Answer, Offsets};
+use deblock::{Answer, Offsets, Part};
 
 /// An intra picture and 24 that are predicted, each from the one before: a second of film.
 pub const PICTURES: usize = 25;
@@ -52,13 +52,13 @@ impl Films {
 
     /// Visits a picture in many arrival orders; the library's film goes on with what the last of them gave.
     fn arrivals(&mut self, before: &Picture, settings: &Settings, right: &Picture) {
-        let size = before.size;
-        let usual = [orders::raster(size), orders::reverse_diagonal(size), orders::columns(size)];
+        let (frame, size) = (&[Part::Frame], before.size);
+        let usual = [orders::raster, orders::reverse_diagonal, orders::columns].map(|order| order(frame, size));
         let seeds = ORDERS * self.library.len() as u64..;
-        let random = seeds.map(|seed| orders::random(size, seed)).take(ORDERS as usize - usual.len());
+        let random = seeds.map(|seed| orders::random(frame, size, seed)).take(ORDERS as usize - usual.len());
         let mut last = None;
         for order in usual.into_iter().chain(random) {
-            let end = replay(before, settings, &order, true);
+            let end = replay(before, std::slice::from_ref(settings), &order, true);
             self.refused += end.answers.get(&Answer::NotReady).copied().unwrap_or(0);
             self.equal += u64::from(end.picture == *right && end.unvisited() == 0);
             last = Some(end.picture);
@@ -78,7 +78,7 @@ impl Films {
 
 /// The recorder's way: the whole picture in raster order.
 fn whole(mut picture: Picture, settings: &Settings) -> Picture {
-    let answer = picture.lent(settings, &mut settings.strengths.clone(), &mut []).frame();
+    let answer = picture.lent(settings, &mut settings.strengths.clone(), &mut []).whole();
     assert_eq!(answer, Answer::Done, "the film is in the domain");
     picture
 }

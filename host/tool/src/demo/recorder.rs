@@ -3,7 +3,7 @@
 use super::transform;
 use super::wall::{SIZE, STEP};
 use crate::picture::{Picture, Settings};
-use deblock::{Answer, Grids, Offsets};
+use deblock::{Answer, Grids, Offsets, Part};
 
 /// A luma QP that recorders use on good links; a chroma QP below 30 is the same.
 const QP: u8 = 24;
@@ -73,5 +73,5 @@ fn settings(coded: &[bool], intra: bool, offsets: Offsets) -> Settings {
         let answer = lent.derive(grids, place, false);
         assert_eq!(answer, Answer::Done, "the recorder's grids are in the domain");
     }
-    Settings { offsets, strengths, qps: vec![QP; n], t8s: Vec::new() }
+    Settings { part: Part::Frame, offsets, strengths, qps: vec![QP; n], t8s: Vec::new() }
 }

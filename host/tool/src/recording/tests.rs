@@ -5,16 +5,34 @@ use std::path::Path;
 
 /// A good recording of one macroblock, every part of it as short as it can be.
 pub fn good() -> Vec<u8> {
-    let mut b = b"DBV1\x01\0\x01\0\x08\x01\0\xFF\xFF\0".to_vec();
-    b.extend(vec![100; 768]);
-    b.extend([2, 0xFE]); // A 2, B -2
-    b.push(30); // QP
-    b.extend([1; 16]); // inter
-    b.extend([0; 16]); // counts
-    b.extend([0xFF; 16]); // references: none
-    b.extend([1, 0xFF].repeat(32)); // motion -255
-    b.extend([0; 32]); // strengths
+    recording(1)
+}
+
+/// The same of two fields.
+pub fn fields() -> Vec<u8> {
+    recording(2)
+}
+
+fn recording(pictures: u8) -> Vec<u8> {
+    let mut b = b"DBV1\x01\0\x01\0\x08".to_vec();
+    b.extend([pictures, 0, 0xFF, 0xFF, 0]);
+    b.extend([100; 768].repeat(pictures.into()));
+    for a in 1..=pictures {
+        b.extend([2 * a, 0xFE]); // A 2, in the second field 4; B -2
+        b.push(30); // QP
+        b.extend([1; 16]); // inter
+        b.extend([0; 16]); // counts
+        b.extend([0xFF; 16]); // references: none
+        b.extend([1, 0xFF].repeat(32)); // motion -255
+        b.extend([0; 32]); // strengths
+    }
     b
+}
+
+/// A recording with another byte at one place.
+pub fn changed(mut recording: Vec<u8>, at: usize, value: u8) -> Vec<u8> {
+    recording[at] = value;
+    recording
 }
 
 pub fn parse(bytes: &[u8]) -> Result<Recording, String> {
@@ -25,33 +43,44 @@ pub fn parse(bytes: &[u8]) -> Result<Recording, String> {
 #[test]
 fn reads_what_is_there() {
     let r = parse(&good()).expect("a good file");
-    let grids = r.grids.expect("no flag 16");
-    assert_eq!(r.settings.offsets, Offsets { a: 2, b: -2, chroma: -1 });
-    assert_eq!((grids.ref0[15], grids.mv0[31], grids.ref1.len()), (-1, -255, 0));
-    assert_eq!(r.before.luma.len(), 256);
+    assert_eq!((r.parts(), r.settings[0].offsets), (vec![Part::Frame], Offsets { a: 2, b: -2, chroma: -1 }));
+    assert_eq!((r.grids[0].ref0[15], r.grids[0].mv0[31], r.grids[0].ref1.len()), (-1, -255, 0));
+    assert_eq!((r.before.luma.len(), r.before.height()), (256, 16));
+}
+
+#[test]
+fn two_fields_share_planes_and_nothing_else() {
+    let r = parse(&changed(fields(), 14 + 16, 7)).expect("a good file");
+    assert_eq!((r.parts(), r.grids.len(), r.before.size), (FIELDS.to_vec(), 2, Size { w: 1, h: 1 }));
+    assert_eq!(r.settings.iter().map(|s| s.offsets.a).collect::<Vec<_>>(), [2, 4]);
+    assert_eq!([&r.before.luma, &r.before.u, &r.before.v].map(Vec::len), [512, 128, 128]);
+    assert_eq!((r.before.height(), r.before.luma[16], r.after.luma[16]), (32, 7, 100));
 }
 
 #[test]
 fn without_grids_the_strengths_follow_the_qps() {
-    let mut b = good();
-    b.drain(785..785 + 16 * 7);
-    b[10] = 16;
-    assert!(parse(&b).expect("a good file").grids.is_none());
+    for (mut b, pictures) in [(good(), 1), (fields(), 2)] {
+        for picture in 0..pictures {
+            let inter = 14 + 768 * pictures + 3 + 35 * picture;
+            b.drain(inter..inter + 16 * 7);
+        }
+        let r = parse(&changed(b, 10, 16)).expect("a good file");
+        assert!(r.grids.is_empty() && r.settings.len() == pictures);
+    }
 }
 
 #[test]
 fn every_cut_is_noticed() {
-    let whole = good();
-    for end in 0..whole.len() {
-        let what = parse(&whole[..end]).err().unwrap_or_else(|| panic!("cut at {end} was taken"));
-        assert!(what.starts_with("x.dbv: at byte "), "{what}");
+    for whole in [good(), fields()] {
+        for end in 0..whole.len() {
+            let what = parse(&whole[..end]).err().unwrap_or_else(|| panic!("cut at {end} was taken"));
+            assert!(what.starts_with("x.dbv: at byte "), "{what}");
+        }
     }
 }
 
 fn damaged(at: usize, value: u8) -> String {
-    let mut b = good();
-    b[at] = value;
-    parse(&b).err().unwrap_or_default()
+    parse(&changed(good(), at, value)).err().unwrap_or_default()
 }
 
 #[test]
@@ -75,9 +104,22 @@ fn damage_is_named_with_its_place() {
 #[test]
 fn what_the_tool_does_not_take_is_named() {
     assert!(damaged(8, 10).contains("at byte 8: the recording has 10-bit samples"));
-    assert!(damaged(9, 2).contains("at byte 9: the recording has fields"));
     assert!(damaged(10, 4).contains("at byte 10: the recording has slices"));
     assert!(damaged(10, 8).contains("at byte 10: the recording has reference tables"));
     assert!(damaged(11, 0).contains("at byte 11: the recording has a chroma offset for U and another for V"));
     assert!(damaged(10, 17).contains("at byte 10: the recording has grids of list 1 but no others"));
+}
+
+/// Where a field is cut or damaged it is named; so is a file of one picture where there should be two.
+#[test]
+fn damage_in_a_field() {
+    let said = |b: &[u8]| parse(b).err().unwrap_or_default();
+    assert!(damaged(9, 2).ends_with("at byte 782: the planes after: 768 bytes are wanted, the file ends after 147"));
+    assert!(said(&changed(fields(), 9, 1)).ends_with("at byte 782: offset A: 100 is out of range"));
+    let one = said(&fields()[..1697]);
+    assert!(one.ends_with("at byte 1697: offset A: 1 bytes are wanted, the file ends after 0, in the bottom field"));
+    for (at, field) in [(1552, "top"), (1699, "bottom")] {
+        let qp = said(&changed(fields(), at, 52));
+        assert_eq!(qp, format!("x.dbv: at byte {at}: the QPs: 52 is out of range, in the {field} field"));
+    }
 }

@@ -1,0 +1,90 @@
+//! The model's numbers: the table's, or wrong ones.
+
+use crate::mistakes::Mistake;
+use crate::model::Model;
+use crate::request::{Call, Request};
+use crate::table;
+
+/// What the table answers to the request after a change.
+fn with(r: &Request, change: impl Fn(&mut Request)) -> u32 {
+    let mut other = r.clone();
+    change(&mut other);
+    table::answer(&other)
+}
+
+impl Model {
+    pub fn number(&self, r: &Request) -> u32 {
+        let number = table::answer(r);
+        let wrong = match r.call {
+            Call::Visit => self.wrong_visit(r, number),
+            Call::Rows => self.wrong_rows(r, number),
+            _ => self.wrong_strengths(r, number),
+        };
+        wrong.or_else(|| self.wrong_part(r, number)).or_else(|| self.wrong_anywhere(r, number)).unwrap_or(number)
+    }
+
+    fn wrong_visit(&self, r: &Request, number: u32) -> Option<u32> {
+        match self.mistake? {
+            Mistake::NoUpperRight if number == 14 && r.y > 0 && r.x + 1 < r.w => {
+                Some(with(r, |q| q.marks[(r.y - 1) * r.w + r.x + 1] = 1))
+            }
+            Mistake::MarkBeforeStrength if number == 9 && r.marks[r.at()] == 1 => Some(13),
+            Mistake::AllQpsRead if [0, 9, 13, 14].contains(&number) && r.qps.iter().any(|&q| q > 51) => Some(8),
+            Mistake::MarksShared => {
+                let last = self.last.borrow();
+                let other = last.as_ref().filter(|v| v.part != r.part && v.luma == r.luma.as_ptr())?;
+                Some(with(r, |q| q.marks.iter_mut().zip(&other.marks).for_each(|(own, mark)| *own |= mark)))
+            }
+            _ => None,
+        }
+    }
+
+    fn wrong_rows(&self, r: &Request, number: u32) -> Option<u32> {
+        let empty = r.first == r.last;
+        match self.mistake? {
+            Mistake::EmptyRangeRefused if number == 0 && empty => Some(2),
+            Mistake::EmptyRangeUnasked if number == 19 && empty => Some(0),
+            Mistake::RowAboveUnread if number == 8 && r.first > 0 => {
+                Some(with(r, |q| q.qps[(r.first - 1) * r.w..r.first * r.w].fill(0)))
+            }
+            _ => None,
+        }
+    }
+
+    fn wrong_strengths(&self, r: &Request, number: u32) -> Option<u32> {
+        let done = number == 0 && r.call.is_strengths();
+        match self.mistake? {
+            Mistake::EmptyListOneRefused if done && r.ref1.is_empty() => Some(5),
+            Mistake::FlatNeedsUniform if done && r.call == Call::Flags && r.flat != 0 && r.uniform == 0 => Some(12),
+            Mistake::StrengthsAskPart if done && r.part > 2 => Some(19),
+            _ => None,
+        }
+    }
+
+    /// Of frame and field, in filtering calls.
+    fn wrong_part(&self, r: &Request, number: u32) -> Option<u32> {
+        let as_part = |part: u8| with(r, |q| q.part = part);
+        match self.mistake.filter(|_| !r.call.is_strengths())? {
+            Mistake::PartAfterPlanes if number == 19 && as_part(0) == 3 && as_part(1) == 3 => Some(3),
+            Mistake::PartBeforePlace if number == 2 && r.part > 2 => Some(19),
+            Mistake::SingleLengths if number == 0 && r.part > 0 => Some(as_part(0)),
+            Mistake::DoubledFrameTaken if number == 3 && r.part == 0 => Some(as_part(1)),
+            _ => None,
+        }
+    }
+
+    fn wrong_anywhere(&self, r: &Request, number: u32) -> Option<u32> {
+        match self.mistake? {
+            Mistake::RefusesAlways if number == 0 => Some(1),
+            Mistake::OddOffsetRefused if number == 0 && r.offsets.iter().any(|o| o % 2 != 0) => Some(6),
+            Mistake::QpBeforeFlag if number == 7 && !r.call.is_strengths() => {
+                let without_flags = with(r, |q| {
+                    q.t8s = Vec::new().into();
+                    q.marks.iter_mut().for_each(|m| *m = (*m).min(1));
+                });
+                (without_flags == 8).then_some(8)
+            }
+            _ => None,
+        }
+    }
+}

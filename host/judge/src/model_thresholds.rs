@@ -1,0 +1,62 @@
+//! The model's thresholds: clause 8.7.2.2, and the tables of the standard.
+
+use crate::mistakes::Mistake;
+use crate::model::Model;
+use crate::request::Request;
+
+pub struct Thresholds {
+    pub alpha: i32,
+    pub beta: i32,
+    pub tc0: [i32; 3],
+}
+
+impl Model {
+    /// Of an edge between macroblocks of QPs `p` and `q`.
+    pub fn thresholds(&self, r: &Request, p: i32, q: i32, chroma: bool) -> Thresholds {
+        let [a, b, offset] = r.offsets;
+        let offset = if self.has(Mistake::ChromaOffsetIgnored) { 0 } else { offset };
+        let map = |qp: i32| if chroma { mapped((qp + offset).clamp(0, 51)) } else { qp };
+        let round = if self.has(Mistake::AverageRoundsDown) { 0 } else { 1 };
+        let average = match self.mistake {
+            Some(Mistake::AveragesBeforeMapping) => map((p + q + 1) >> 1),
+            _ => (map(p) + map(q) + round) >> 1,
+        };
+        let index_a = (average + a).clamp(0, 51) as usize;
+        let index_b = (average + b).clamp(0, 51) as usize;
+        let beta = BETA[if self.has(Mistake::BetaByIndexA) { index_a } else { index_b }];
+        let tc0 = TC0[if self.has(Mistake::Tc0ByIndexB) { index_b } else { index_a }];
+        Thresholds { alpha: ALPHA[index_a], beta, tc0 }
+    }
+}
+
+fn mapped(qp: i32) -> i32 {
+    const TABLE_8_15: [i32; 22] =
+        [29, 30, 31, 32, 32, 33, 34, 34, 35, 35, 36, 36, 37, 37, 37, 38, 38, 38, 39, 39, 39, 39];
+    if qp < 30 {
+        qp
+    } else {
+        TABLE_8_15[qp as usize - 30]
+    }
+}
+
+/// Table 8-16, from the standard.
+#[rustfmt::skip]
+const ALPHA: [i32; 52] = [
+    0, 0, 0, 0, 0, 0, 0, 0, 0, 0, 0, 0, 0, 0, 0, 0, 4, 4, 5, 6, 7, 8, 9, 10, 12, 13, 15, 17, 20, 22, 25, 28,
+    32, 36, 40, 45, 50, 56, 63, 71, 80, 90, 101, 113, 127, 144, 162, 182, 203, 226, 255, 255,
+];
+#[rustfmt::skip]
+const BETA: [i32; 52] = [
+    0, 0, 0, 0, 0, 0, 0, 0, 0, 0, 0, 0, 0, 0, 0, 0, 2, 2, 2, 3, 3, 3, 3, 4, 4, 4, 6, 6, 7, 7, 8, 8,
+    9, 9, 10, 10, 11, 11, 12, 12, 13, 13, 14, 14, 15, 15, 16, 16, 17, 17, 18, 18,
+];
+/// Table 8-17, for strengths 1, 2 and 3.
+#[rustfmt::skip]
+const TC0: [[i32; 3]; 52] = [
+    [0, 0, 0], [0, 0, 0], [0, 0, 0], [0, 0, 0], [0, 0, 0], [0, 0, 0], [0, 0, 0], [0, 0, 0], [0, 0, 0],
+    [0, 0, 0], [0, 0, 0], [0, 0, 0], [0, 0, 0], [0, 0, 0], [0, 0, 0], [0, 0, 0], [0, 0, 0], [0, 0, 1],
+    [0, 0, 1], [0, 0, 1], [0, 0, 1], [0, 1, 1], [0, 1, 1], [1, 1, 1], [1, 1, 1], [1, 1, 1], [1, 1, 1],
+    [1, 1, 2], [1, 1, 2], [1, 1, 2], [1, 1, 2], [1, 2, 3], [1, 2, 3], [2, 2, 3], [2, 2, 4], [2, 3, 4],
+    [2, 3, 4], [3, 3, 5], [3, 4, 6], [3, 4, 6], [4, 5, 7], [4, 5, 8], [4, 6, 9], [5, 7, 10], [6, 8, 11],
+    [6, 8, 13], [7, 10, 14], [8, 11, 16], [9, 12, 18], [10, 13, 20], [11, 15, 23], [13, 17, 25],
+];

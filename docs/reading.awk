@@ -82,8 +82,9 @@ kind == "code" && /^(pub )?(extern "C" )?fn / { public = /^pub / }
 kind == "code" && /^ *(requires|ensures) / { ensures = /^ *ensures / }
 kind == "code" && /^\{/ { ensures = 0 }
 kind == "code" { if (public && ensures) refer(FILENAME SUBSEP "", $0); next }
-kind == "proof" && /^  pub / { stating = index(" " theorems " ", " " $2 " ") > 0; found[$2] = 1 }
-kind == "proof" && !/^  pub / && /^  [^ -].* =/ { stating = 0 }
+kind == "proof" { match($0, /^ */); depth = RLENGTH }
+kind == "proof" && /^ *pub / { stating = index(" " theorems " ", " " $2 " ") > 0; found[$2] = 1; stated = depth }
+kind == "proof" && !/^ *pub / && depth == stated && /^ *[^ -].* =/ { stating = 0 }
 kind == "proof" { if (stating) refer(FILENAME SUBSEP "", $0); next }
 
 # ---- definitions

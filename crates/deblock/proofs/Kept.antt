@@ -1,5 +1,5 @@
--- An outcome is kept where the part, the offsets, or what check 12 says, are replaced by equal ones; and what a
--- number for a kind comes to. Assumes nothing.
+-- An outcome is kept where the part, the offsets, or what check 12 says, are replaced by equal ones; and what
+-- a number for a kind comes to. Assumes nothing.
 use mathlib.Core.Path.{_≡_, sym, ap, _∙_, subst}
 use mathlib.Core.Bool.{Bool, true, false, _||_}
 use mathlib.Core.List.{List}

@@ -19,8 +19,8 @@ use Rattle.strengths.specs.declared.kinds.Request.{Request}
 abbrev pub sizeOf : ℕ → ℕ → Size
 sizeOf w h = record { w = w; h = h }
 
--- the part of a frame's planes: 0 is the frame, 1 its top field, of parity 0, 2 its bottom field, of parity 1. A
--- number above 2 is a field of another parity, which check 19 refuses
+-- the part of a frame's planes: 0 is the frame, 1 its top field, of parity 0, 2 its bottom field, of parity
+-- 1. A number above 2 is a field of another parity, which check 19 refuses
 abbrev pub partNumber : ℕ → Part
 partNumber k = cond (eqb k 0) Frame (Field (k - 1))
 

@@ -1,5 +1,5 @@
--- The code's way with a part of the planes is to filter it as a picture of its own, from a macroblock to rows;
--- and the two fields of a frame do not see each other. Assumes nothing.
+-- The code's way with a part of the planes is to filter it as a picture of its own, from a macroblock to
+-- rows; and the two fields of a frame do not see each other. Assumes nothing.
 use mathlib.Core.Path.{_≡_, refl, sym, _∙_}
 use mathlib.Core.Logic.{_≢_}
 use mathlib.Core.Bool.{false}

@@ -1,5 +1,5 @@
-// Macroblocks and rows of a picture, w macroblocks wide, which is a part of three planes. In raster order each
-// macroblock has a QP, an 8x8 flag (an empty grid: all 0) and 32 strengths.
+// Macroblocks and rows of a picture, w macroblocks wide, which is a part of three planes. In raster order
+// each macroblock has a QP, an 8x8 flag (an empty grid: all 0) and 32 strengths.
 ghost use mathlib.Core.Path.{_≡_};
 ghost use mathlib.Core.Bool.{false};
 ghost use Prim.Native.Nat.{_+_, _*_, _<_, _≤_};

@@ -1,5 +1,5 @@
--- Demand 3 of both fields, of calls known by their contracts alone and of what `replay_fields` leaves; and that
--- its promise allows one outcome only. Assumes nothing.
+-- Demand 3 of both fields, of calls known by their contracts alone and of what `replay_fields` leaves; and
+-- that its promise allows one outcome only. Assumes nothing.
 use mathlib.Core.Path.{_≡_, refl, sym, ap, subst, _∙_}
 use mathlib.Core.List.{List, [], _∷_}
 use Prim.Native.Nat.{ℕ, _*_, _<_}
@@ -26,8 +26,8 @@ both-calls-run {size} {top} {bottom} {u} (one-call {p = p} {rs = rs} o c) =
     (k .0 ∙ ap (run (bothVisit size top bottom) rs) t, λ i. e .0 i ∷ (k .1 ∙ ap (answers (bothVisit size top bottom) rs) t) i)
 
 module _ (size : Size) (top bottom : OfField) (wide : 0 < size .w) where
-  -- of any calls that keep the contract of a visit of a field, from marks all 0: where they lead, and the numbers
-  -- that they answered
+  -- of any calls that keep the contract of a visit of a field, from marks all 0: where they lead, and the
+  -- numbers that they answered
   pub fields-of-calls : {start : Planes} {rs : List Arrival} {ns : List ℕ} {now : Both} → BothCalls size top bottom (unvisitedBoth size start) rs ns now
       → ((p : ℕ) → p < 2 → FieldAnyOrder size top bottom p start now) × (ns ≡ answers (bothVisit size top bottom) rs (unvisitedBoth size start))
   fields-of-calls {start} {rs} c =

@@ -1,5 +1,5 @@
--- Each field of a frame is a part of it of its own: requests to it do what visits of the picture do, requests to
--- the other, and to no field, leave it. Assumes nothing.
+-- Each field of a frame is a part of it of its own: requests to it do what visits of the picture do, requests
+-- to the other, and to no field, leave it. Assumes nothing.
 use mathlib.Core.Path.{_≡_, refl, sym, ap, subst, _∙_}
 use mathlib.Core.Logic.{_≢_}
 use mathlib.Core.Bool.{Bool, true, false, cond}

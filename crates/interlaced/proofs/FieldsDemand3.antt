@@ -1,5 +1,5 @@
--- Demand 3 for each field of a frame, whatever the other receives: it is demand 3 of the picture that the field
--- is. Assumes nothing.
+-- Demand 3 for each field of a frame, whatever the other receives: it is demand 3 of the picture that the
+-- field is. Assumes nothing.
 use mathlib.Core.Path.{_≡_, refl, sym, ap, subst, _∙_}
 use mathlib.Core.Logic.{_≢_}
 use mathlib.Core.Bool.{Bool, true, false, cond}

@@ -1,5 +1,5 @@
--- What else holds of two fields: they do not see each other, some visit of a field that is not finished is done,
--- and a finished one is filtered whole. Assumes nothing.
+-- What else holds of two fields: they do not see each other, some visit of a field that is not finished is
+-- done, and a finished one is filtered whole. Assumes nothing.
 use mathlib.Core.Path.{_≡_, refl, sym, ap, subst, _∙_}
 use mathlib.Core.Logic.{_⊎_, inl, inr, _≢_}
 use mathlib.Core.Bool.{true}
@@ -24,7 +24,8 @@ use Rattle.interlaced.proofs.Apart.{all-valid, only-without}
 use Rattle.interlaced.proofs.EachAlone.{FrameLengths, fieldIn, each-alone}
 use Rattle.interlaced.proofs.FieldsDemand3.{field-run, field-answers, stays, decLengths}
 
--- ---- what one field comes to rests on what it is lent, its lines and its requests alone: all else may differ
+-- ---- what one field comes to rests on what it is lent, its lines and its requests alone: all else may
+-- differ
 pub unseen-field : (size : Size) (wide : 0 < size .w) (top bottom top′ bottom′ : OfField) (start start′ : Planes)
     → Lengths (2 * (size .w * size .h)) start → Lengths (2 * (size .w * size .h)) start′ → (rs rs′ : List Arrival) (p : ℕ) → p < 2
     → lentFor size top bottom p ≡ lentFor size top′ bottom′ p → takenOut size p start ≡ takenOut size p start′ → only p rs ≡ only p rs′
@@ -52,7 +53,8 @@ module _ (size : Size) (top bottom : OfField) (wide : 0 < size .w) where
   abbrev after : Planes → List Arrival → Both
   after = bothAfter size top bottom
 
-  -- so leaving out all requests to one field changes nothing on the other's lines and marks, whatever the planes
+  -- so leaving out all requests to one field changes nothing on the other's lines and marks, whatever the
+  -- planes
   pub left-out : (start : Planes) (rs : List Arrival) (p q : ℕ) → p < 2 → p ≢ q
       → (takenOut size p (after start rs .frame) ≡ takenOut size p (after start (without q rs) .frame)) × (marksFor p (after start rs) ≡ marksFor p (after start (without q rs)))
   left-out start rs p q h n = go (decLengths (2 * (size .w * size .h)) start)
@@ -87,8 +89,8 @@ module _ (size : Size) (top bottom : OfField) (wide : 0 < size .w) where
         go (inr (x, y, a, b, z)) =
             inr (x, y, a, b, each-alone size top bottom wide p h .says (after start rs) (x, y) lengths-after ∙ ap (λ (s : State Planes). visitOf (d p) s (x, y) .0) e ∙ z)
 
-    -- all of a field visited: its lines are what filtering it whole gives, and with strengths that were derived
-    -- from its grids the standard's picture straight from these
+    -- all of a field visited: its lines are what filtering it whole gives, and with strengths that were
+    -- derived from its grids the standard's picture straight from these
     pub field-whole : (p : ℕ) → p < 2 → AllVisited (size .w) (size .h) (marksFor p (after start rs))
         → takenOut size p (after start rs .frame) ≡ frameOf (heldOf (d p)) (size .h) (takenOut size p start)
     field-whole p h all =

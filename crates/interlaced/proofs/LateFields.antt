@@ -1,5 +1,5 @@
--- Data that arrive between visits, in fields: calls to a field are calls to the picture that it is, so what holds
--- of pictures holds of it, whatever the other field's lines hold. Assumes nothing.
+-- Data that arrive between visits, in fields: calls to a field are calls to the picture that it is, so what
+-- holds of pictures holds of it, whatever the other field's lines hold. Assumes nothing.
 use mathlib.Core.List.{List}
 use Prim.Native.Nat.{ℕ, _<_}
 use Rattle.edges.specs.Picture.{Planes}

@@ -1,6 +1,7 @@
 pub mod Apart
 pub mod Calls
 pub mod OneField
+pub mod RowsOfField
 pub mod EachAlone
 pub mod FieldsDemand3
 pub mod Finished

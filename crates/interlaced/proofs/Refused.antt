@@ -1,5 +1,5 @@
--- Wrong versions that look right, each shown to break a promise of a visit of a field or of both fields. Assumes
--- nothing.
+-- Wrong versions that look right, each shown to break a promise of a visit of a field or of both fields.
+-- Assumes nothing.
 use mathlib.Core.Path.{_≡_, sym, ap, _∙_}
 use mathlib.Core.Logic.{_≢_}
 use mathlib.Core.Bool.{false}
@@ -26,7 +26,8 @@ pub visit-touches-other : (d : Lent) (p q : ℕ) → 0 < d .size .w → p < 2 �
 visit-touches-other d p q wide hp hq apart s t r n f h o =
     h (ap (λ (u : State Planes). takenOut (d .size) q (u .0)) (outcome-is-visit o .1) ∙ other-visit d wide p hp s f q hq apart r)
 
--- 19 asked after 3, or not at all: any other number for a parity that no field has, where neither 1 nor 2 applies
+-- 19 asked after 3, or not at all: any other number for a parity that no field has, where neither 1 nor 2
+-- applies
 pub visit-not-19 : (d : Lent) (p : ℕ) → 2 ≤ p → (s t : State Planes) (r : At) (n : ℕ) → badSize (d .size) ≡ false → outsideOf (d .size) (r .0) (r .1) ≡ false → n ≢ 19
     → VisitOutcome (Field p) d s r n t → ⊥
 visit-not-19 d p l s t r n a b h o =

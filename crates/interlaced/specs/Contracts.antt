@@ -8,8 +8,8 @@ use Rattle.visits.specs.Promise.{VisitOutcome}
 use Rattle.visits.specs.Visit.{At, State}
 use Rattle.interlaced.specs.Both.{Arrival, OfField, Both, marksFor, storedFor, lentFor}
 
--- each call keeps the contract of a visit of the field that its request names, and is lent that field's marks:
--- from the first state by the requests to the answers and the last state
+-- each call keeps the contract of a visit of the field that its request names, and is lent that field's
+-- marks: from the first state by the requests to the answers and the last state
 pub data BothCalls (size : Size) (top bottom : OfField) : Both → List Arrival → List ℕ → Both → Type 0 where
   no-call : {u : Both} → BothCalls size top bottom u [] [] u
   one-call : {u v : Both} {p : ℕ} {r : At} {rs : List Arrival} {n : ℕ} {ns : List ℕ} {s : State Planes}

@@ -1,6 +1,6 @@
-// Visits of both fields of a frame, replayed. `size` is one field's, and so are strengths, QPs, flags and marks:
-// those that end in `_top` are of parity 0, the even lines, those that end in `_bottom` of parity 1. The planes
-// are the frame's. Nothing is asked of the caller; a refusal changes no byte.
+// Visits of both fields of a frame, replayed. `size` is one field's, and so are strengths, QPs, flags and
+// marks: those that end in `_top` are of parity 0, the even lines, those that end in `_bottom` of parity 1.
+// The planes are the frame's. Nothing is asked of the caller; a refusal changes no byte.
 ghost use mathlib.Core.Path.{_≡_};
 ghost use lib.ListN.{length};
 ghost use Rattle.edges.specs.Picture.{planes};
@@ -12,8 +12,8 @@ use sizes::Part;
 use sizes::Size;
 use visits::visits::visit;
 
-// Macroblock (x, y) of the field of a parity, filtered and marked, or a refusal. A parity that no field has is
-// refused before anything that is lent for a field is looked at.
+// Macroblock (x, y) of the field of a parity, filtered and marked, or a refusal. A parity that no field has
+// is refused before anything that is lent for a field is looked at.
 fn visit_field(
     size: Size,
     parity: u8,

@@ -1,5 +1,5 @@
--- An empty range that passes checks 1 to 6, 19 among them, is served, whatever the values are, and leaves the planes. Assumes
--- nothing.
+-- An empty range that passes checks 1 to 6, 19 among them, is served, whatever the values are, and leaves the
+-- planes. Assumes nothing.
 use mathlib.Core.Path.{_≡_, refl, sym, ap, _∙_}
 use mathlib.Core.Bool.{Bool, true, false, cond, not, _&&_}
 use mathlib.Core.List.{List, _++_}

@@ -35,8 +35,8 @@ grey-refused : (rowAnswer Frame (greyLent 0 30) 0 2 grey ≡ 2)
 unfolding rowAnswer someBad some
 grey-refused = (refl, refl, refl, refl, refl)
 
--- ---- a field of one macroblock: the planes are those of a frame of two. A parity of 2 is refused after the range
--- and before the planes
+-- ---- a field of one macroblock: the planes are those of a frame of two. A parity of 2 is refused after the
+-- range and before the planes
 abbrev pub greyFrame : Planes
 greyFrame = planes (replicate 512 128) (replicate 128 128) (replicate 128 128)
 

@@ -1,6 +1,6 @@
 -- What every filtering call checks, in the order of its checks: docs/RULES.md, "Answers". A call is lent the
--- three planes of a frame, and strengths, QPs, 8x8 flags of the picture that it filters: the frame, or a field
--- of it. n is the number of macroblocks.
+-- three planes of a frame, and strengths, QPs, 8x8 flags of the picture that it filters: the frame, or a
+-- field of it. n is the number of macroblocks.
 use Prim.Native.Nat.{ℕ, _+_, _-_, _*_}
 use mathlib.Core.Bool.{Bool, not, _&&_, _||_}
 use mathlib.Core.List.{List, [], _∷_, _++_}

@@ -1,5 +1,5 @@
--- What the calls that filter rows a to b of a picture promise, of which b is not one. They read the rows' strengths, flags
--- and QPs, and the QPs of row a - 1 where there is one and the range is not empty.
+-- What the calls that filter rows a to b of a picture promise, of which b is not one. They read the rows'
+-- strengths, flags and QPs, and the QPs of row a - 1 where there is one and the range is not empty.
 use Prim.Native.Nat.{ℕ, _-_, _*_}
 use mathlib.Core.Path.{_≡_}
 use mathlib.Core.Bool.{Bool, false, cond, _&&_, _||_}

@@ -1,5 +1,5 @@
-// The two calls that filter rows of a picture, which is a frame or a field of one: `size` is the picture's, the
-// planes are the frame's. Neither asks anything of its caller; a refusal changes no byte.
+// The two calls that filter rows of a picture, which is a frame or a field of one: `size` is the picture's,
+// the planes are the frame's. Neither asks anything of its caller; a refusal changes no byte.
 ghost use mathlib.Core.Path.{_≡_};
 ghost use mathlib.Core.Bool.{false};
 ghost use Prim.Native.Nat.{_*_, _≤_};

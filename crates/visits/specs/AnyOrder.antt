@@ -1,6 +1,6 @@
 -- Demand 3, word for word, of any visit `call`: what holds at each state `now` that a list of requests leads
--- to from `start` with nothing visited. A state has a picture and its marks; it may hold more, as a frame that
--- has two fields does.
+-- to from `start` with nothing visited. A state has a picture and its marks; it may hold more, as a frame
+-- that has two fields does.
 use Prim.Native.Nat.{ℕ, _+_, _*_, _<_}
 use mathlib.Core.Path.{_≡_}
 use mathlib.Core.Logic.{_≢_, _⊎_, _↔_}
@@ -38,9 +38,9 @@ pub record Free (W H : ℕ) (ms : List ℕ) : Type 0 where
   pub unvisited : Unvisited W ms x y
   pub ready : Waits W H ms x y → ⊥
 
--- W by H macroblocks; of a state `planesOf` is the picture and `marksOf` its marks; `step i` filters macroblock
--- i, `early` has the number of the first check before 13 that applies, 0 where none does, and `number` is the
--- one that an answer holds
+-- W by H macroblocks; of a state `planesOf` is the picture and `marksOf` its marks; `step i` filters
+-- macroblock i, `early` has the number of the first check before 13 that applies, 0 where none does, and
+-- `number` is the one that an answer holds
 module _ (W H : ℕ) {A S U : Type 0} (planesOf : U → S) (marksOf : U → List ℕ) (step : ℕ → S → S) (early : U → At → ℕ) (number : A → ℕ) (call : U → At → A × U) where
   pub record AnyOrderIn (start : S) (now : U) : Type 0 where
     -- what "visited" means: a visit that answers 0 sets its own mark, and a refused one changes nothing

@@ -14,8 +14,8 @@ use Rattle.visits.specs.Visit.{At, State, Call, VisitOutcomeOf, fresh, v
 use Rattle.pictures.specs.Checks.{Lent, heldOf}
 use Rattle.visits.specs.Checks.{earlyIn}
 
--- the visit of the theory, with the filter of demand 2 and the checks of every filtering call: of a part of the
--- planes, which are a frame's; of a frame
+-- the visit of the theory, with the filter of demand 2 and the checks of every filtering call: of a part of
+-- the planes, which are a frame's; of a frame
 abbrev pub stepIn : Part → Lent → ℕ → Planes → Planes
 stepIn part d i = onPart part (d .size) (stepOf (heldOf d) i)
 

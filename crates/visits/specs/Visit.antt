@@ -68,8 +68,8 @@ module _ (W : ℕ) {S : Type 0} (step : ℕ → S → S) (early : State S → At
     pub planes : t .0 ≡ serve W step (answer W early s r) s r .0
     pub marks : t .1 ≡ serve W step (answer W early s r) s r .1
 
--- any list of requests, one after the other: the state at the end, and the answers. Requests and states may be
--- of any kind, as those of two fields are
+-- any list of requests, one after the other: the state at the end, and the answers. Requests and states may
+-- be of any kind, as those of two fields are
 module _ {A U R : Type 0} (call : U → R → A × U) where
   abbrev pub run : List R → U → U
   run [] s = s

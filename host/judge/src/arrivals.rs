@@ -1,7 +1,8 @@
 //! What crates/arrivals must print: the same pictures and orders, each visit answered by the table of
-//! refusals and carried out by the Rust original.
+//! refusals and carried out by the Rust original, in a field by the model, with which the original, asked of
+//! the field's lines as a frame, agrees.
 
-use crate::expect::{expect, marked_in_raster_order};
+use crate::expect::{expect, marked_in_raster_order, second_opinion};
 use crate::request::{Call, Request};
 use std::io::{Result, Write};
 
@@ -17,6 +18,51 @@ const ORDERS: [Order<8>; 4] = [
 /// The second half of P12: one wide, (0, 1) has no upper right neighbour to wait for.
 const DOWNWARDS: Order<2> = ("downwards:", [(0, 0), (0, 1)]);
 
+/// A request to a field: its parity, column and row.
+type Arrival = (u8, usize, usize);
+type Arrivals = (&'static str, [Arrival; 12]);
+
+const MAX: usize = usize::MAX;
+
+#[rustfmt::skip]
+const INTERLACED: [Arrivals; 7] = [
+    ("top field first:", [
+        (0, 0, 0), (0, 1, 0), (0, 1, 1), (0, 0, 1), (0, 1, 1), (1, 1, 0),
+        (1, 0, 0), (1, 1, 0), (1, 0, 1), (1, 1, 1), (0, 1, 1), (1, 1, 1),
+    ]),
+    ("bottom field first:", [
+        (1, 0, 0), (1, 1, 0), (0, 0, 1), (1, 0, 1), (1, 1, 1), (1, 0, 0),
+        (0, 0, 0), (0, 1, 0), (0, 0, 1), (0, 1, 1), (0, 0, 0), (1, 0, 1),
+    ]),
+    ("in turn:", [
+        (0, 0, 0), (1, 0, 0), (0, 1, 0), (1, 1, 0), (0, 1, 1), (1, 1, 1),
+        (0, 0, 1), (1, 0, 1), (0, 1, 1), (1, 1, 1), (0, 0, 0), (1, 0, 0),
+    ]),
+    ("with parities of no field:", [
+        (2, 0, 0), (0, 0, 0), (255, 1, 0), (0, 1, 0), (0, 0, 1), (1, 0, 0),
+        (2, 2, 0), (255, 0, 2), (0, 1, 1), (1, 1, 0), (1, 0, 1), (1, 1, 1),
+    ]),
+    ("the bottom field unfinished:", [
+        (0, 0, 0), (1, 0, 0), (0, 1, 0), (1, 0, 2), (0, 0, 1), (1, 0, 1),
+        (0, 1, 1), (1, 1, 0), (0, 2, 1), (1, 1, 1), (1, 0, 0), (0, 1, 1),
+    ]),
+    ("the top field unfinished:", [
+        (1, 0, 0), (0, 1, 0), (1, 1, 0), (0, 0, 0), (1, 0, 1), (2, 1, 0),
+        (0, 0, 1), (1, 1, 1), (0, 1, 1), (0, 0, 0), (1, 1, 1), (0, 1, 0),
+    ]),
+    ("all refused:", [
+        (0, 1, 0), (1, 1, 0), (0, 0, 1), (1, 1, 1), (2, 0, 0), (255, 0, 0),
+        (2, 2, 2), (255, MAX, 0), (0, 2, 0), (1, 0, MAX), (3, 1, 1), (1, 0, 1),
+    ]),
+];
+
+/// Asked of planes that have the length of one field's.
+#[rustfmt::skip]
+const SHORT: Arrivals = ("planes of one field:", [
+    (0, 0, 0), (1, 0, 0), (0, 1, 0), (1, 1, 0), (2, 0, 0), (255, 1, 1),
+    (0, 2, 0), (1, 0, 2), (2, 2, 0), (0, 0, 1), (1, 0, 1), (1, 1, 1),
+]);
+
 pub fn run(out: &mut impl Write) -> Result<()> {
     for (name, picture) in [("flat", flat()), ("mixed", mixed())] {
         writeln!(out, "{name}")?;
@@ -25,7 +71,12 @@ pub fn run(out: &mut impl Write) -> Result<()> {
         }
     }
     writeln!(out, "one wide")?;
-    replay(out, one_wide(), DOWNWARDS)
+    replay(out, one_wide(), DOWNWARDS)?;
+    writeln!(out, "interlaced")?;
+    for order in INTERLACED {
+        replay_fields(out, fields(2), order)?;
+    }
+    replay_fields(out, fields(1), SHORT)
 }
 
 fn replay<const N: usize>(out: &mut impl Write, before: Request, (name, places): Order<N>) -> Result<()> {
@@ -40,6 +91,50 @@ fn replay<const N: usize>(out: &mut impl Write, before: Request, (name, places):
     // 0: the lists of the replay are equally long
     write!(out, "{name} 0, answers{}, marks{}, ", words(&answers), words(&r.marks))?;
     writeln!(out, "sample {}, sums {} {} {}", r.luma[495], sum(&r.luma), sum(&r.u), sum(&r.v))
+}
+
+fn replay_fields(out: &mut impl Write, before: [Request; 2], (name, arrivals): Arrivals) -> Result<()> {
+    let mut now = before.clone();
+    let answers = arrivals.map(|arrival| visit_field(&mut now, arrival));
+    let mut raster = before;
+    for parity in 0..2 {
+        marked_in_raster_order(&mut raster[parity], &now[parity].marks);
+        lend_planes(&mut raster, parity);
+    }
+    let [top, bottom] = &now;
+    assert!(raster[0].luma == top.luma && raster[0].u == top.u && raster[0].v == top.v, "demand 3 on the model");
+    write!(out, "{name} 0, answers{}", words(&answers))?;
+    write!(out, ", top marks{}, bottom marks{}", words(&top.marks), words(&bottom.marks))?;
+    writeln!(out, ", top sums{}, bottom sums{}", words(&field_sums(top, 0)), words(&field_sums(top, 1)))
+}
+
+/// What the visit must answer; the fields are then as it must leave them. A parity above 1 becomes a part
+/// above 2, which the table refuses whatever is lent.
+fn visit_field(fields: &mut [Request; 2], (parity, x, y): Arrival) -> u32 {
+    let own = usize::from(parity != 0);
+    let q = &mut fields[own];
+    (q.part, q.x, q.y) = (parity.saturating_add(1), x, y);
+    let before = q.clone();
+    let number = expect(q);
+    if number == 0 {
+        let other = second_opinion(&before).expect("the original filters planes");
+        assert_eq!(q.difference(&other), None, "the original on the field's lines");
+    }
+    q.part = own as u8 + 1;
+    lend_planes(fields, own);
+    number
+}
+
+/// Puts the planes as the field of parity `from` has them into the other: they are one frame's.
+fn lend_planes(fields: &mut [Request; 2], from: usize) {
+    let Request { luma, u, v, .. } = fields[from].clone();
+    fields[1 - from] = Request { luma, u, v, ..fields[1 - from].clone() };
+}
+
+/// The sums of the field's lines.
+fn field_sums(r: &Request, parity: usize) -> [u64; 3] {
+    let of = |plane: &[u8], line: usize| sum(&plane.chunks(line).skip(parity).step_by(2).collect::<Vec<_>>().concat());
+    [of(&r.luma, 16 * r.w), of(&r.u, 8 * r.w), of(&r.v, 8 * r.w)]
 }
 
 fn words<T: ToString>(items: &[T]) -> String {
@@ -112,4 +207,62 @@ fn one_wide() -> Request {
     r.qps = vec![30, 36].into();
     r.t8s = vec![0, 1].into();
     r
+}
+
+/// Two fields of 2 by 2 macroblocks, over planes for so many of them: the top one is lent what `mixed` is, the
+/// bottom one strengths, QPs, flags and offsets of its own.
+fn fields(count: usize) -> [Request; 2] {
+    let Request { luma, u, v, .. } = varied(2, 2 * count);
+    let top = Request { part: 1, luma, u, v, ..mixed() };
+    let mut bottom = Request { part: 2, offsets: [-1, 4, -2], ..top.clone() };
+    bottom.strengths = (0..128).map(|i| ((i * 2 + i / 16) % 5) as u8).collect::<Vec<u8>>().into();
+    bottom.qps = vec![44, 33, 38, 35].into();
+    bottom.t8s = vec![1, 0, 0, 1].into();
+    [top, bottom]
+}
+
+#[cfg(test)]
+mod tests {
+    use super::*;
+    use std::mem::swap;
+
+    fn line(fields: [Request; 2], order: Arrivals) -> String {
+        let mut out = Vec::new();
+        replay_fields(&mut out, fields, order).expect("memory is written");
+        String::from_utf8(out).expect("plain text")
+    }
+
+    /// The sums of the field of that parity.
+    fn sums_of(parity: usize, line: &str) -> &str {
+        let (_, sums) = line.trim_end().split_once(", top sums").expect("sums");
+        let (top, bottom) = sums.split_once(", bottom sums").expect("sums of both");
+        [top, bottom][parity]
+    }
+
+    #[test]
+    fn what_is_lent_for_the_other_field_shows() {
+        let exchanges: [fn(&mut Request, &mut Request); 6] = [
+            |top, bottom| swap(&mut top.strengths, &mut bottom.strengths),
+            |top, bottom| swap(&mut top.qps, &mut bottom.qps),
+            |top, bottom| swap(&mut top.t8s, &mut bottom.t8s),
+            |top, bottom| swap(&mut top.offsets[0], &mut bottom.offsets[0]),
+            |top, bottom| swap(&mut top.offsets[1], &mut bottom.offsets[1]),
+            |top, bottom| swap(&mut top.offsets[2], &mut bottom.offsets[2]),
+        ];
+        let right = line(fields(2), INTERLACED[0]);
+        for exchange in exchanges {
+            let [mut top, mut bottom] = fields(2);
+            exchange(&mut top, &mut bottom);
+            let wrong = line([top, bottom], INTERLACED[0]);
+            assert!([0, 1].iter().all(|&parity| sums_of(parity, &right) != sums_of(parity, &wrong)));
+        }
+    }
+
+    #[test]
+    fn a_field_comes_out_the_same_whatever_the_other_received() {
+        let lines = INTERLACED.map(|order| line(fields(2), order));
+        let [top, bottom] = [0, 1].map(|parity| lines.each_ref().map(|line| sums_of(parity, line)));
+        assert!(top[..5].iter().all(|sums| *sums == top[0]) && top[5] != top[0] && top[6] != top[0]);
+        assert!(bottom.iter().enumerate().all(|(i, sums)| (*sums == bottom[0]) == (i != 4 && i != 6)));
+    }
 }

@@ -4,8 +4,8 @@ use Prim.Native.Nat.{_-_, _≤_}
 use mathlib.Core.Path.{_≡_, refl}
 use native.Mathlib.Omega.{arith}
 use lib.ListN.{length, length-set}
-use Rattle.arrivals.proofs.fill.Statement.{statement}
-use Rattle.arrivals.proofs.fill.Tie as tie
+use Rattle.arrivals.proofs.contents.fill.Statement.{statement}
+use Rattle.arrivals.proofs.contents.fill.Tie as tie
 
 abbrev Inv : tie.InvT-loop
 Inv s₀ what picture i₀ n s i = (i ≤ n) × (n ≡ length s₀) × (length s ≡ length s₀)

@@ -7,8 +7,8 @@ use mathlib.Core.Bool.{not, _||_}
 use lib.Dec.{eqb}
 use lib.ListN.{length}
 use Rattle.laws.proofs.Bools.{or-false}
-use Rattle.interlaced.proofs.arrivals.replay_fields.Statement.{statement}
-use Rattle.interlaced.proofs.arrivals.replay_fields.Tie as tie
+use Rattle.interlaced.proofs.both.replay_fields.Statement.{statement}
+use Rattle.interlaced.proofs.both.replay_fields.Tie as tie
 
 abbrev start : tie.Else1 → tie.Start
 start c = c .before .before .before .before .before .before .before .before .before .before .before .before .before .before .before .before

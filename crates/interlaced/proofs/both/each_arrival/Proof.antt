@@ -11,8 +11,8 @@ use Rattle.visits.proofs.Calls.{served-none, served-all}
 use Rattle.interlaced.specs.Both.{ofField, both, bothVisit}
 use Rattle.interlaced.specs.Promise.{arrivals}
 use Rattle.interlaced.proofs.Calls.{arrivals-length, served-arrival}
-use Rattle.interlaced.proofs.arrivals.each_arrival.Statement.{statement}
-use Rattle.interlaced.proofs.arrivals.each_arrival.Tie as tie
+use Rattle.interlaced.proofs.both.each_arrival.Statement.{statement}
+use Rattle.interlaced.proofs.both.each_arrival.Tie as tie
 
 abbrev Inv : tie.InvT-loop
 Inv size ps xs ys luma₀ u₀ v₀ o s q t marks₀ o′ s′ q′ t′ marks′₀ answers₀ k₀ luma u v marks marks′ answers k =

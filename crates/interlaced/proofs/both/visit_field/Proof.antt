@@ -3,8 +3,8 @@ use borrow.Author.Needs.{needs}
 use borrow.Author.Tests.{eq-eqb, ne-eqb}
 use native.Mathlib.Omega.{arith}
 use Rattle.interlaced.proofs.Calls.{top-visited, bottom-visited}
-use Rattle.interlaced.proofs.arrivals.visit_field.Statement.{statement}
-use Rattle.interlaced.proofs.arrivals.visit_field.Tie as tie
+use Rattle.interlaced.proofs.both.visit_field.Statement.{statement}
+use Rattle.interlaced.proofs.both.visit_field.Tie as tie
 
 returns : tie.Need-returns
 returns c =

@@ -8,4 +8,5 @@ pub mod Finished
 pub mod TwoWholes
 pub mod ByContracts
 pub mod LateFields
+pub mod Examples
 pub mod Refused

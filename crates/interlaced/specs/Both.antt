@@ -44,6 +44,8 @@ pub record Both : Type 0 where
 abbrev pub both : Planes → List ℕ → List ℕ → Both
 both p t b = record { frame = p; top = t; bottom = b }
 
+-- the marks, and below what is lent, for the field of parity p. A visit with a parity that no field has is
+-- refused before any of it is looked at
 abbrev pub marksFor : ℕ → Both → List ℕ
 marksFor p u = cond (eqb p 0) (u .top) (u .bottom)
 

@@ -1,0 +1,25 @@
+-- Worked examples: the answers to requests to both fields, of one macroblock each. Assumes nothing.
+use mathlib.Core.Path.{_≡_, refl}
+use mathlib.Core.List.{List, [], _∷_, replicate}
+use Prim.Native.Nat.{ℕ}
+use lib.IntN.{pos}
+use Rattle.laws.specs.Some.{some}
+use Rattle.edges.specs.Picture.{Planes, planes}
+use Rattle.sizes.specs.declared.Size.{Size}
+use Rattle.pictures.specs.Checks.{someBad}
+use Rattle.visits.specs.Checks.{badMarks, badQps, earlyIn}
+use Rattle.visits.specs.Visit.{answer, waiting, visit, answers}
+use Rattle.interlaced.specs.Both.{OfField, ofField, unvisitedBoth, bothVisit}
+
+abbrev one : Size
+one = record { w = 1; h = 1 }
+
+abbrev stillField : OfField
+stillField = ofField (record { a = pos 0; b = pos 0; chroma = pos 0 }) (replicate 32 0) (30 ∷ []) []
+
+-- with no planes: a parity of 2; the right parity, and 3; outside the picture, with a right parity and a wrong
+-- one
+no-planes : answers (bothVisit one stillField stillField) ((2, (0, 0)) ∷ (0, (0, 0)) ∷ (1, (1, 0)) ∷ (255, (0, 1)) ∷ []) (unvisitedBoth one (planes [] [] []))
+    ≡ 19 ∷ 3 ∷ 2 ∷ 2 ∷ []
+unfolding bothVisit visit answer earlyIn
+no-planes = refl

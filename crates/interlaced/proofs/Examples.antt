@@ -17,8 +17,8 @@ one = record { w = 1; h = 1 }
 abbrev stillField : OfField
 stillField = ofField (record { a = pos 0; b = pos 0; chroma = pos 0 }) (replicate 32 0) (30 ∷ []) []
 
--- with no planes: a parity of 2; the right parity, and 3; outside the picture, with a right parity and a wrong
--- one
+-- with no planes: a parity of 2; the right parity, and 3; outside the picture, with a right parity and a
+-- wrong one
 no-planes : answers (bothVisit one stillField stillField) ((2, (0, 0)) ∷ (0, (0, 0)) ∷ (1, (1, 0)) ∷ (255, (0, 1)) ∷ []) (unvisitedBoth one (planes [] [] []))
     ≡ 19 ∷ 3 ∷ 2 ∷ 2 ∷ []
 unfolding bothVisit visit answer earlyIn

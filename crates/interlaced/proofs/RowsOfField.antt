@@ -1,5 +1,5 @@
--- A row call on a field of a frame is the row call on the picture that the field is: it sees nothing of the other
--- field. Assumes nothing.
+-- A row call on a field of a frame is the row call on the picture that the field is: it sees nothing of the
+-- other field. Assumes nothing.
 use mathlib.Core.Path.{_≡_, refl, ap, _∙_}
 use mathlib.Core.Bool.{Bool, true, false, cond}
 use Prim.Native.Nat.{ℕ, _*_, _<_}

@@ -11,15 +11,15 @@ use Rattle.sizes.specs.declared.Size.{Size}
 use Rattle.motion.specs.Grids.{Grids}
 use Rattle.strengths.specs.Calls.{PlainOutcome}
 use Rattle.strengths.specs.declared.kinds.Plain.{Plain}
-use Rattle.recordings.specs.Grids.{served, derivedAt, derivedTo, DerivedAll}
+use Rattle.recordings.specs.Grids.{servedAt, derivedAt, derivedTo, DerivedAll}
 use Rattle.recordings.specs.Places.{columnAt, rowAt}
 
-module _ (size : Size) (g : Grids) (t8s : List ℕ) where
+module _ (size : Size) (field : Bool) (g : Grids) (t8s : List ℕ) where
   pub turn : (i k : ℕ) {x y b m : ℕ} {s s′ : List ℕ} → length s ≡ k → x ≡ columnAt i (size .w) → y ≡ rowAt i (size .w) → b ≡ getD t8s i 0
-      → PlainOutcome size (record { x = x; y = y; t8 = not (eqb b 0) }) g s m s′ → (eqb m 0 ≡ served size g t8s k i) × (s′ ≡ derivedAt size g t8s i s)
+      → PlainOutcome size field (record { x = x; y = y; t8 = not (eqb b 0) }) g s m s′ → (eqb m 0 ≡ servedAt size g k i) × (s′ ≡ derivedAt size field g t8s i s)
   turn i k h p q r o = (rw (o .says, p, q, h), rw (o .says, p, q, r) at (o .leaves))
 
   -- all is read, and no call was refused
-  pub with-reading : (n : ℕ) (a b : Bool) {s s′ : List ℕ} → (b ≡ every n (served size g t8s (length s))) × (s′ ≡ derivedTo size g t8s n s)
-      → DerivedAll size g t8s n s (a && b) s′
+  pub with-reading : (n : ℕ) (a b : Bool) {s s′ : List ℕ} → (b ≡ every n (servedAt size g (length s))) × (s′ ≡ derivedTo size field g t8s n s)
+      → DerivedAll size field g t8s n s (a && b) s′
   with-reading n a b h = record { all = λ e. sym (h .0) ∙ and-true a b e .1; leaves = h .1 }

@@ -2,4 +2,3 @@ pub mod Derived
 pub mod Refused
 pub mod Turns
 pub mod Verdict
-pub mod Ways

@@ -1,12 +1,15 @@
 -- Wrong verdicts that look right, each shown to break the promise on a small picture. Assumes nothing.
 use Prim.Native.Nat.{ℕ}
-use mathlib.Core.Path.{_≡_, refl, ap}
-use mathlib.Core.Bool.{Bool, true}
+use mathlib.Core.Path.{_≡_, refl, sym, ap, _∙_}
+use mathlib.Core.Bool.{Bool, true, false, false≢true}
 use mathlib.Core.List.{List, [], _∷_}
 use mathlib.Core.Logic.{_↔_}
 use native.Mathlib.Omega.{arith}
 use lib.ListN.{length, getD}
+use Rattle.laws.specs.Some.{every}
 use Rattle.edges.specs.Picture.{Planes, planes}
+use Rattle.recordings.specs.Bytes.{ones}
+use Rattle.recordings.specs.Orders.{visitedAll}
 
 -- one sample of V, 0 and 1
 abbrev none : Planes
@@ -30,3 +33,12 @@ by-length f says alike = differ (says none one .0 (alike none one refl refl refl
 -- nor does it leave V out
 pub without-v : (f : Planes → Planes → Bool) → Compares f → ((p q : Planes) → p .luma ≡ q .luma → p .u ≡ q .u → f p q ≡ true) → ⊥
 without-v f says alike = differ (says none one .0 (alike none one refl refl))
+
+-- ---- two fields: whether each macroblock of each was visited is not told by the marks of the top field
+-- alone
+abbrev Visited : (List ℕ → List ℕ → Bool) → Type 0
+Visited f = (marks marks₂ : List ℕ) → f marks marks₂ ≡ visitedAll marks marks₂
+
+pub top-alone : (f : List ℕ → List ℕ → Bool) → Visited f → ((marks marks₂ : List ℕ) → ones marks ≡ true → f marks marks₂ ≡ true) → ⊥
+unfolding every
+top-alone f says alike = false≢true (sym (says (1 ∷ []) (0 ∷ [])) ∙ alike (1 ∷ []) (0 ∷ []) refl)

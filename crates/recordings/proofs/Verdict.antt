@@ -10,11 +10,10 @@ use borrow.Author.Tests.{eq-eqb}
 use lib.ListN.{length, take, replicate, length-replicate}
 use Rattle.laws.proofs.Bools.{and-true}
 use Rattle.edges.specs.Picture.{Planes, planes}
-use Rattle.pictures.specs.Checks.{Lent}
-use Rattle.visits.specs.Visit.{State}
 use Rattle.recordings.specs.Bytes.{zeros, copied, ones}
-use Rattle.recordings.specs.Orders.{isWhole, filtered, Becomes, startOf, ComesOut}
-use Rattle.recordings.specs.declared.orders.Way.{Way}
+use Rattle.recordings.specs.Orders.{Recording, framesOf, secondOf, mostOf, WithMarks, filtered, visitedAll, Becomes, startOf, ComesOut}
+use Rattle.recordings.specs.Ways.{isWhole}
+use Rattle.recordings.specs.declared.ways.Way.{Way}
 
 -- two tests are passed exactly where both facts hold
 pub both : (a b : Bool) {P Q : Type 0} → (a ≡ true) ↔ P → (b ≡ true) ↔ Q → ((a && b) ≡ true) ↔ (P × Q)
@@ -34,13 +33,13 @@ module _ {y u v y′ u′ v′ : List ℕ} where
         λ e. all .1 ((ap (λ (s : Planes). s .luma) e, ap (λ (s : Planes). s .u) e), ap (λ (s : Planes). s .v) e),
       )
 
--- the two tests of a way
-pub becomes : {way : Way} {d : Lent} {n : ℕ} {s t : State Planes} {after : Planes} (v w m : Bool) → t ≡ filtered way d n s → v ≡ isWhole way
-    → w ≡ ones (t .1) → (m ≡ true) ↔ (t .0 ≡ after) → (((v || w) && m) ≡ true) ↔ Becomes way d n s after
-becomes {way} {d} {n} {s} {t} {after} v w m e p q r =
-    let visits : (v || w) ≡ (isWhole way || ones (filtered way d n s .1)) = rw (q, p, e) in (
-      λ h. let b = and-true (v || w) m h in record { visited = sym visits ∙ b .0; out = sym (ap (λ (x : State Planes). x .0) e) ∙ r .0 (b .1) },
-      λ h. rw (visits ∙ h .visited, r .1 (ap (λ (x : State Planes). x .0) e ∙ h .out)),
+-- the tests of a way
+pub becomes : {way : Way} {r : Recording} {s t : WithMarks} {after : Planes} (v w w₂ m : Bool) → t ≡ filtered way r s → v ≡ isWhole way
+    → w ≡ ones (t .1) → w₂ ≡ ones (t .2) → (m ≡ true) ↔ (t .0 ≡ after) → (((v || (w && w₂)) && m) ≡ true) ↔ Becomes way r s after
+becomes {way} {r} {s} {t} {after} v w w₂ m e p q q₂ k =
+    let visits : (v || (w && w₂)) ≡ (isWhole way || visitedAll (filtered way r s .1) (filtered way r s .2)) = rw (q, q₂, p, e) in (
+      λ h. let b = and-true (v || (w && w₂)) m h in record { visited = sym visits ∙ b .0; out = sym (ap (λ (x : WithMarks). x .0) e) ∙ k .0 (b .1) },
+      λ h. rw (visits ∙ h .visited, k .1 (ap (λ (x : WithMarks). x .0) e ∙ h .out)),
     )
 
 -- ---- a part of a space of zeros
@@ -61,23 +60,28 @@ zeros-length n = length-replicate n 0
 whole : (k : ℕ) (s : List ℕ) → length s ≡ k → copied (zeros k) s ≡ s
 whole k s e = rw (eq-eqb (length (zeros k)) (length s) (zeros-length k ∙ sym e))
 
-pub start-is : (n : ℕ) (p : Planes) → length (p .luma) ≡ 256 * n → length (p .u) ≡ 64 * n → length (p .v) ≡ 64 * n → startOf n p ≡ (p, zeros n)
-start-is n p e f g = rw (whole (256 * n) (p .luma) e, whole (64 * n) (p .u) f, whole (64 * n) (p .v) g)
+pub start-is : (r : Recording) (p : Planes) → let m = framesOf (r .two) (r .n) in
+    length (p .luma) ≡ 256 * m → length (p .u) ≡ 64 * m → length (p .v) ≡ 64 * m → startOf r p ≡ (p, zeros (r .n), zeros (secondOf (r .two) (r .n)))
+start-is r p e f g =
+    let m = framesOf (r .two) (r .n) in
+    rw (whole (256 * m) (p .luma) e, whole (64 * m) (p .u) f, whole (64 * m) (p .v) g)
 
 -- ---- a way in spaces of 120 macroblocks
-module _ (way : Way) (d : Lent) (n : ℕ) (before after : Planes) where
-  pub too-large : 120 < n → (false ≡ true) ↔ ComesOut way d n before after
+module _ (way : Way) (r : Recording) (before after : Planes) where
+  pub too-large : mostOf (r .two) < r .n → (false ≡ true) ↔ ComesOut way r before after
   too-large h = (λ e. absurd (false≢true e), λ k. let s = k .small in absurd (omega arith))
 
-  pub in-space : (y u v marks : List ℕ) (r : Bool) → n ≤ 120 → y ≡ zeros 30720 → u ≡ zeros 7680 → v ≡ zeros 7680 → marks ≡ zeros 120
-      → (r ≡ true) ↔ Becomes way d n (planes (copied (take (256 * n) y) (before .luma)) (copied (take (64 * n) u) (before .u)) (copied (take (64 * n) v) (before .v)), take n marks) after
-      → (r ≡ true) ↔ ComesOut way d n before after
-  in-space y u v marks r h ey eu ev em b =
-      let f : take (256 * n) y ≡ zeros (256 * n) = rw ey (take-zeros (256 * n) 30720 (omega arith)) in
-      let g : take (64 * n) u ≡ zeros (64 * n) = rw eu (take-zeros (64 * n) 7680 (omega arith)) in
-      let k : take (64 * n) v ≡ zeros (64 * n) = rw ev (take-zeros (64 * n) 7680 (omega arith)) in
-      let m : take n marks ≡ zeros n = rw em (take-zeros n 120 h) in
-      let e : _≡_ {A = State Planes} (planes (copied (take (256 * n) y) (before .luma)) (copied (take (64 * n) u) (before .u)) (copied (take (64 * n) v) (before .v)), take n marks) (startOf n before) = rw (f, g, k, m) in (
-        λ t. record { small = h; becomes = subst (λ (s : State Planes). Becomes way d n s after) e (b .0 t) },
-        λ t. b .1 (subst (λ (s : State Planes). Becomes way d n s after) (sym e) (t .becomes)),
+  pub in-space : (y u v marks marks₂ : List ℕ) (a : Bool) (m n₂ : ℕ) → r .n ≤ mostOf (r .two) → m ≤ 120 → m ≡ framesOf (r .two) (r .n) → r .n ≤ 120
+      → n₂ ≤ r .n → n₂ ≡ secondOf (r .two) (r .n) → y ≡ zeros 30720 → u ≡ zeros 7680 → v ≡ zeros 7680 → marks ≡ zeros 120 → marks₂ ≡ zeros 120
+      → (a ≡ true) ↔ Becomes way r (planes (copied (take (256 * m) y) (before .luma)) (copied (take (64 * m) u) (before .u)) (copied (take (64 * m) v) (before .v)), take (r .n) marks, take n₂ marks₂) after
+      → (a ≡ true) ↔ ComesOut way r before after
+  in-space y u v marks marks₂ a m n₂ h hm fm hn h₂ f₂ ey eu ev em em₂ b =
+      let f : take (256 * m) y ≡ zeros (256 * m) = rw ey (take-zeros (256 * m) 30720 (omega arith)) in
+      let g : take (64 * m) u ≡ zeros (64 * m) = rw eu (take-zeros (64 * m) 7680 (omega arith)) in
+      let k : take (64 * m) v ≡ zeros (64 * m) = rw ev (take-zeros (64 * m) 7680 (omega arith)) in
+      let l : take (r .n) marks ≡ zeros (r .n) = rw em (take-zeros (r .n) 120 hn) in
+      let l₂ : take n₂ marks₂ ≡ zeros n₂ = rw em₂ (take-zeros n₂ 120 (omega arith)) in
+      let e : _≡_ {A = WithMarks} (planes (copied (take (256 * m) y) (before .luma)) (copied (take (64 * m) u) (before .u)) (copied (take (64 * m) v) (before .v)), take (r .n) marks, take n₂ marks₂) (startOf r before) = rw (f, g, k, l, l₂, fm, f₂) in (
+        λ t. record { small = h; becomes = subst (λ (s : WithMarks). Becomes way r s after) e (b .0 t) },
+        λ t. b .1 (subst (λ (s : WithMarks). Becomes way r s after) (sym e) (t .becomes)),
       )

@@ -1,5 +1,5 @@
 -- Apart: no promise to a caller rests on it, but what this program says of itself. The strengths of a
--- picture, derived macroblock by macroblock from grids g.
+-- picture, derived macroblock by macroblock from grids g: of a field where `field` is true, else of a frame.
 use Prim.Native.Nat.{ℕ, _+_, _*_, _≤_, _<_}
 use mathlib.Core.Path.{_≡_}
 use mathlib.Core.Bool.{Bool, true, false, cond, not}
@@ -11,22 +11,22 @@ use Rattle.laws.specs.Some.{every}
 use Rattle.sizes.specs.declared.Size.{Size}
 use Rattle.motion.specs.Grids.{Grids}
 use Rattle.strengths.specs.Calls.{answerOf, oneFlag}
-use Rattle.strengths.specs.Strength.{frame, strengthAt, written}
+use Rattle.strengths.specs.Strength.{modeOf, strengthAt, written}
 use Rattle.recordings.specs.Places.{columnAt, rowAt}
 
-module _ (size : Size) (g : Grids) (t8s : List ℕ) where
-  -- the call of macroblock i is not refused; m is the length of the strengths
-  abbrev pub served : ℕ → ℕ → Bool
-  served m i = eqb (answerOf size (columnAt i (size .w)) (rowAt i (size .w)) g false m) 0
+-- the call of macroblock i is not refused; m is the length of the strengths
+abbrev pub servedAt : Size → Grids → ℕ → ℕ → Bool
+servedAt size g m i = eqb (answerOf size (columnAt i (size .w)) (rowAt i (size .w)) g false m) 0
 
+module _ (size : Size) (field : Bool) (g : Grids) (t8s : List ℕ) where
   -- and leaves its strengths; its transform is 8x8 where its flag is not 0
   abbrev pub derivedAt : ℕ → List ℕ → List ℕ
   derivedAt i s =
       cond
-      (served (length s) i)
+      (servedAt size g (length s) i)
       (written
       (rowAt i (size .w) * size .w + columnAt i (size .w))
-      (strengthAt frame g (size .w) (oneFlag (not (eqb (getD t8s i 0) 0))) (columnAt i (size .w)) (rowAt i (size .w)))
+      (strengthAt (modeOf field) g (size .w) (oneFlag (not (eqb (getD t8s i 0) 0))) (columnAt i (size .w)) (rowAt i (size .w)))
       s)
       s
 
@@ -34,12 +34,12 @@ module _ (size : Size) (g : Grids) (t8s : List ℕ) where
   derivedTo n s = upTo n derivedAt s
 
 -- what is left of the strengths s, and what an answer `true` says
-pub record DerivedAll (size : Size) (g : Grids) (t8s : List ℕ) (n : ℕ) (s : List ℕ) (r : Bool) (s′ : List ℕ) : Type 0 where
-  pub all : r ≡ true → every n (served size g t8s (length s)) ≡ true
-  pub leaves : s′ ≡ derivedTo size g t8s n s
+pub record DerivedAll (size : Size) (field : Bool) (g : Grids) (t8s : List ℕ) (n : ℕ) (s : List ℕ) (r : Bool) (s′ : List ℕ) : Type 0 where
+  pub all : r ≡ true → every n (servedAt size g (length s)) ≡ true
+  pub leaves : s′ ≡ derivedTo size field g t8s n s
 
 -- .. of grids that were read from a file: no contract can say which they are, but some they are. More than
 -- 120 macroblocks are not read
-pub record FromFile (size : Size) (t8s : List ℕ) (n : ℕ) (s : List ℕ) (r : Bool) (s′ : List ℕ) : Type 0 where
+pub record FromFile (size : Size) (field : Bool) (t8s : List ℕ) (n : ℕ) (s : List ℕ) (r : Bool) (s′ : List ℕ) : Type 0 where
   pub too-large : 120 < n → (r ≡ false) × (s′ ≡ s)
-  pub derived : n ≤ 120 → (g : Grids) × DerivedAll size g t8s n s r s′
+  pub derived : n ≤ 120 → (g : Grids) × DerivedAll size field g t8s n s r s′

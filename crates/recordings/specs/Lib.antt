@@ -2,3 +2,4 @@ pub mod Bytes
 pub mod Grids
 pub mod Orders
 pub mod Places
+pub mod Ways

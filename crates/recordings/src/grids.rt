@@ -7,7 +7,7 @@ ghost use Prim.Native.Nat.{_≤_};
 ghost use lib.ListN.{length};
 ghost use Rattle.laws.specs.Some.{every};
 ghost use Rattle.motion.specs.Grids.{grids};
-ghost use Rattle.recordings.specs.Grids.{served, derivedTo, DerivedAll, FromFile};
+ghost use Rattle.recordings.specs.Grids.{servedAt, derivedTo, DerivedAll, FromFile};
 ghost use Rattle.recordings.specs.Places.{columnAt, rowAt};
 use crate::bytes::byte_at;
 use crate::bytes::fill;
@@ -62,9 +62,10 @@ fn list(
     one & two
 }
 
-// The strengths of all macroblocks, and whether no call was refused.
+// The strengths of all macroblocks, of a field or of a frame, and whether no call was refused.
 fn derive<'a>(
     size: Size,
+    field: bool,
     n: usize,
     inter: &[u8],
     nnz: &[u8],
@@ -75,7 +76,7 @@ fn derive<'a>(
     t8s: &[u8],
     s: &mut [u8],
 ) -> bool
-    ensures { λ r. ⌜ (r ≡ every n (served size (grids (now (inter .entry)) (now (nnz .entry)) (now (ref0 .entry)) (now (mv0 .entry)) (now (ref1 .entry)) (now (mv1 .entry))) (now (t8s .entry)) (length (now (s .entry))))) × (now (s .exit) ≡ derivedTo size (grids (now (inter .entry)) (now (nnz .entry)) (now (ref0 .entry)) (now (mv0 .entry)) (now (ref1 .entry)) (now (mv1 .entry))) (now (t8s .entry)) n (now (s .entry))) ⌝ }
+    ensures { λ r. ⌜ (r ≡ every n (servedAt size (grids (now (inter .entry)) (now (nnz .entry)) (now (ref0 .entry)) (now (mv0 .entry)) (now (ref1 .entry)) (now (mv1 .entry))) (length (now (s .entry))))) × (now (s .exit) ≡ derivedTo size field (grids (now (inter .entry)) (now (nnz .entry)) (now (ref0 .entry)) (now (mv0 .entry)) (now (ref1 .entry)) (now (mv1 .entry))) (now (t8s .entry)) n (now (s .entry))) ⌝ }
 {
     let mut done = true;
     for i in 0..n {
@@ -86,7 +87,7 @@ fn derive<'a>(
             y,
             t8: byte_at(t8s, i) != 0,
         };
-        done = done & (derive_mb(size, p, inter, nnz, ref0, mv0, ref1, mv1, s) == 0);
+        done = done & (derive_mb(size, field, p, inter, nnz, ref0, mv0, ref1, mv1, s) == 0);
     }
     done
 }
@@ -144,6 +145,7 @@ fn read(
 fn read_and_derive(
     fd: i32,
     size: Size,
+    field: bool,
     n: usize,
     inter: &mut [u8],
     nnz: &mut [u8],
@@ -158,7 +160,7 @@ fn read_and_derive(
     t8s: &[u8],
     s: &mut [u8],
 ) -> bool
-    ensures { λ r. ⌜ DerivedAll size (grids (now (inter .exit)) (now (nnz .exit)) (now (ref0 .exit)) (now (mv0 .exit)) (now (ref1 .exit)) (now (mv1 .exit))) (now (t8s .entry)) n (now (s .entry)) r (now (s .exit)) ⌝ }
+    ensures { λ r. ⌜ DerivedAll size field (grids (now (inter .exit)) (now (nnz .exit)) (now (ref0 .exit)) (now (mv0 .exit)) (now (ref1 .exit)) (now (mv1 .exit))) (now (t8s .entry)) n (now (s .entry)) r (now (s .exit)) ⌝ }
 {
     let whole = read(
         fd,
@@ -173,13 +175,21 @@ fn read_and_derive(
         raw_refs1,
         raw_mvs1,
     );
-    whole & derive(size, n, inter, nnz, ref0, mv0, ref1, mv1, t8s, s)
+    whole & derive(size, field, n, inter, nnz, ref0, mv0, ref1, mv1, t8s, s)
 }
 
 // Reads the grids of at most 120 macroblocks and derives their strengths; false where there are more, the
 // file is too short or a call was refused.
-pub fn strengths_of(fd: i32, size: Size, n: usize, lists: bool, t8s: &[u8], s: &mut [u8]) -> bool
-    ensures { λ r. ⌜ FromFile size (now (t8s .entry)) n (now (s .entry)) r (now (s .exit)) ⌝ }
+pub fn strengths_of(
+    fd: i32,
+    size: Size,
+    field: bool,
+    n: usize,
+    lists: bool,
+    t8s: &[u8],
+    s: &mut [u8],
+) -> bool
+    ensures { λ r. ⌜ FromFile size field (now (t8s .entry)) n (now (s .entry)) r (now (s .exit)) ⌝ }
 {
     if 120 < n {
         return false;
@@ -203,6 +213,7 @@ pub fn strengths_of(fd: i32, size: Size, n: usize, lists: bool, t8s: &[u8], s: &
     read_and_derive(
         fd,
         size,
+        field,
         n,
         &mut inter[..k],
         &mut nnz[..k],

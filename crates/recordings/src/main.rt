@@ -1,16 +1,20 @@
 // Replays recordings (FORMAT.md) of a real decoder and of the Rust original. The arguments name the files,
-// which hold one recording or several end to end. The strengths derived from the recorded grids are those of
-// the file, and the planes before the filter become those after it, filtered as a whole and by visits in
-// three orders. It prints a line for each; what it must print (stdout) is that all are equal.
+// which hold one recording or several end to end, each of a frame or of the two fields of one. The strengths
+// derived from the recorded grids are those of the file, and the planes before the filter become those after
+// it, each picture filtered as a whole, and by visits in three orders, those of two fields mixed. It prints a
+// line for each; what it must print (stdout) is that all are equal.
 ghost use mathlib.Core.Path.{_≡_};
-ghost use Prim.Native.Nat.{_*_};
+ghost use Prim.Native.Nat.{_*_, _≤_};
+ghost use Rattle.recordings.specs.Orders.{mostOf};
 
+mod both;
 mod bytes;
 mod grids;
 mod orders;
 mod space;
+mod ways;
 
-use bytes::byte_at;
+use both::Shape;
 use bytes::fill;
 use bytes::number;
 use bytes::text;
@@ -32,85 +36,154 @@ fn three(fd: i32, a: &mut [u8], b: &mut [u8], c: &mut [u8]) -> bool {
     fill(fd, a) & fill(fd, b) & fill(fd, c)
 }
 
-// What a header says: the size, how many macroblocks, whether there are list 1 and an 8x8 grid, whether the
-// strengths are free of grids, the chroma offset.
+// What a header says: the size and the number of macroblocks of a picture, whether there are two pictures,
+// list 1 and an 8x8 grid, whether the strengths are free of grids, the chroma offset.
 struct Head {
     size: Size,
     n: usize,
+    two: bool,
     lists: bool,
     t8: bool,
     free: bool,
     chroma: i32,
 }
 
-// Reads the parts after the header, in the file's order, and derives the strengths s.
-fn load(
-    fd: i32,
-    size: Size,
-    blocks: usize,
-    lists: bool,
-    luma: &mut [u8],
-    u: &mut [u8],
-    v: &mut [u8],
-    ay: &mut [u8],
-    au: &mut [u8],
-    av: &mut [u8],
-    ab: &mut [u8],
-    qps: &mut [u8],
-    t8s: &mut [u8],
-    s: &mut [u8],
-    told: &mut [u8],
-) -> bool {
-    let before = three(fd, luma, u, v);
-    let after = three(fd, ay, au, av);
-    let others = three(fd, ab, qps, t8s);
-    let derived = grids::strengths_of(fd, size, blocks, lists, t8s, s);
-    before & after & others & derived & fill(fd, told)
+// What was read of a picture's grids and strengths: whether it was all there, and whether the strengths derived
+// from the grids are those of the file, by `check::same` of the kit.
+struct Strengths {
+    good: bool,
+    same: bool,
 }
 
-fn same_strengths(free: bool, s: &[u8], told: &[u8]) {
+// .. of all of a picture, with its offsets.
+struct Loaded {
+    good: bool,
+    same: bool,
+    o: Offsets,
+}
+
+// .. of all pictures; `free`: the strengths are free of grids.
+struct Found {
+    whole: bool,
+    free: bool,
+    same: bool,
+}
+
+fn at_most(k: usize, most: usize) -> usize
+    ensures { λ r. ⌜ r ≤ most ⌝ }
+{
+    if k < most {
+        return k;
+    }
+    most
+}
+
+// Reads the grids of a picture and its strengths s; made are those that are derived from the grids.
+fn load_strengths(fd: i32, head: Head, t: &[u8], made: &mut [u8], s: &mut [u8]) -> Strengths {
+    let n = grids::only_if(!head.free, head.n);
+    let derived = grids::strengths_of(fd, head.size, head.two, n, head.lists, t, made);
+    let last = fill(fd, s);
+    Strengths {
+        good: derived & last,
+        same: check::same(made, s),
+    }
+}
+
+// Reads the parts of a picture, in the file's order: offsets, QPs q, 8x8 flags t, grids, strengths s.
+fn load(fd: i32, head: Head, q: &mut [u8], t: &mut [u8], s: &mut [u8]) -> Loaded {
+    let mut ab = [0u8; 2];
+    let first = three(fd, &mut ab, q, t);
+    let mut made = space::strengths();
+    let k = at_most(s.len(), 3840);
+    let last = load_strengths(fd, head, t, &mut made[..k], s);
+    let o = Offsets {
+        a: offset(ab[0]),
+        b: offset(ab[1]),
+        chroma: head.chroma,
+    };
+    Loaded {
+        good: first & last.good,
+        same: last.same,
+        o,
+    }
+}
+
+// .. of the second picture, where there is one.
+fn load_second(fd: i32, head: Head, q: &mut [u8], t: &mut [u8], s: &mut [u8]) -> Loaded {
+    if head.two {
+        return load(fd, head, q, t, s);
+    }
+    let o = Offsets {
+        a: 0,
+        b: 0,
+        chroma: 0,
+    };
+    Loaded {
+        good: true,
+        same: true,
+        o,
+    }
+}
+
+fn same_strengths(free: bool, same: bool) {
     if free {
         text(b", strengths as they are");
         return;
     }
-    verdict(b"strengths", check::same(s, told));
+    verdict(b"strengths", same);
 }
 
-// What became of a recording: ay, au and av are the planes after the filter, told the strengths of the file.
-// What is printed as equal is equal: the contracts of `check::same` and `orders::all` say so.
+fn same_whole(two: bool, good: bool) {
+    if two {
+        verdict(b"pictures", good);
+        return;
+    }
+    verdict(b"picture", good);
+}
+
+fn shape(head: Head, first: Offsets, second: Offsets) -> Shape {
+    let size = head.size;
+    Shape {
+        size,
+        n: head.n,
+        two: head.two,
+        first,
+        second,
+    }
+}
+
+// What became of a recording: ay, au and av are the planes after the filter. What is printed as equal is
+// equal: the contracts of `check::same` and `orders::all` say so.
 fn report(
-    whole: bool,
-    head: Head,
+    found: Found,
+    h: Shape,
     luma: &[u8],
     u: &[u8],
     v: &[u8],
     ay: &[u8],
     au: &[u8],
     av: &[u8],
-    ab: &[u8],
-    qps: &[u8],
-    t8s: &[u8],
     s: &[u8],
-    told: &[u8],
+    q: &[u8],
+    t: &[u8],
+    s2: &[u8],
+    q2: &[u8],
+    t2: &[u8],
 ) {
-    if !whole {
+    if !found.whole {
         text(b" cannot be read\n");
         return;
     }
-    let o = Offsets {
-        a: offset(byte_at(ab, 0)),
-        b: offset(byte_at(ab, 1)),
-        chroma: head.chroma,
-    };
-    same_strengths(head.free, s, told);
-    let d = orders::all(head.size, head.n, o, luma, u, v, ay, au, av, told, qps, t8s);
-    verdict(b"picture", d.whole);
+    same_strengths(found.free, found.same);
+    let d = orders::all(h, luma, u, v, ay, au, av, s, q, t, s2, q2, t2);
+    same_whole(h.two, d.whole);
     verdict(b"raster order", d.raster);
     verdict(b"reverse order", d.reverse);
     verdict(b"by leaps", d.leaps);
     text(b"\n");
 }
 
+// Reads the parts after the header: the planes before the filter and after it, then the pictures.
 fn replay(
     fd: i32,
     head: Head,
@@ -120,55 +193,60 @@ fn replay(
     ay: &mut [u8],
     au: &mut [u8],
     av: &mut [u8],
-    ab: &mut [u8],
-    qps: &mut [u8],
-    t8s: &mut [u8],
     s: &mut [u8],
-    told: &mut [u8],
+    q: &mut [u8],
+    t: &mut [u8],
+    s2: &mut [u8],
+    q2: &mut [u8],
+    t2: &mut [u8],
 ) -> bool {
-    let blocks = grids::only_if(!head.free, head.n);
-    let whole = load(
-        fd,
-        head.size,
-        blocks,
-        head.lists,
-        luma,
-        u,
-        v,
-        ay,
-        au,
-        av,
-        ab,
-        qps,
-        t8s,
-        s,
-        told,
-    );
-    report(whole, head, luma, u, v, ay, au, av, ab, qps, t8s, s, told);
-    whole
+    let before = three(fd, luma, u, v);
+    let after = three(fd, ay, au, av);
+    let one = load(fd, head, q, t, s);
+    let two = load_second(fd, head, q2, t2, s2);
+    let found = Found {
+        whole: before & after & one.good & two.good,
+        free: head.free,
+        same: one.same & two.same,
+    };
+    let h = shape(head, one.o, two.o);
+    report(found, h, luma, u, v, ay, au, av, s, q, t, s2, q2, t2);
+    found.whole
 }
 
 fn picture(fd: i32, head: Head) -> bool {
-    let n = head.n;
-    if 120 < n {
+    if both::most(head.two) < head.n {
         text(b" is too large\n");
         return false;
     }
+    in_space(fd, head)
+}
+
+// .. in spaces for the planes and grids of at most 120 macroblocks.
+fn in_space(fd: i32, head: Head) -> bool
+    requires { ⌜ head .n ≤ mostOf (head .two) ⌝ }
+{
     let mut luma = space::luma();
     let mut u = space::chroma();
     let mut v = space::chroma();
     let mut ay = space::luma();
     let mut au = space::chroma();
     let mut av = space::chroma();
-    let mut ab = [0u8; 2];
-    let mut qps = space::marks();
-    let mut t8s = space::marks();
+    let mut q = space::marks();
+    let mut t = space::marks();
     let mut s = space::strengths();
-    let mut told = space::strengths();
-    let ky = 256 * n;
-    let kc = 64 * n;
+    let mut q2 = space::marks();
+    let mut t2 = space::marks();
+    let mut s2 = space::strengths();
+    let n = head.n;
+    let m = both::frames(head.two, n);
+    let ky = 256 * m;
+    let kc = 64 * m;
     let ks = 32 * n;
-    let k8 = grids::only_if(head.t8, n);
+    let kt = grids::only_if(head.t8, n);
+    let n2 = grids::only_if(head.two, n);
+    let ks2 = 32 * n2;
+    let kt2 = grids::only_if(head.t8, n2);
     replay(
         fd,
         head,
@@ -178,20 +256,22 @@ fn picture(fd: i32, head: Head) -> bool {
         &mut ay[..ky],
         &mut au[..kc],
         &mut av[..kc],
-        &mut ab,
-        &mut qps[..n],
-        &mut t8s[..k8],
         &mut s[..ks],
-        &mut told[..ks],
+        &mut q[..n],
+        &mut t[..kt],
+        &mut s2[..ks2],
+        &mut q2[..n2],
+        &mut t2[..kt2],
     )
 }
 
-// A header of a frame of eight bits with one chroma offset, no slices and no reference tables.
+// A header of eight bits, a frame or two fields, with one chroma offset, no slices and no reference tables.
 fn known(head: &[u8; 14]) -> bool {
     let magic = (head[0] == b'D') & (head[1] == b'B') & (head[2] == b'V') & (head[3] == b'1');
     let small = (head[5] == 0) & (head[7] == 0);
-    let frame = (head[8] == 8) & (head[9] == 1) & (head[10] / 4 % 4 == 0) & (head[10] < 32);
-    magic & small & frame & (head[11] == head[12]) & (head[13] == 0)
+    let pictures = (head[8] == 8) & ((head[9] == 1) | (head[9] == 2));
+    let flags = (head[10] / 4 % 4 == 0) & (head[10] < 32);
+    magic & small & pictures & flags & (head[11] == head[12]) & (head[13] == 0)
 }
 
 fn has(flags: u8, bit: u8) -> bool {
@@ -228,6 +308,10 @@ fn recording(fd: i32, name: &[u8]) -> bool {
     }
     let w = wide(head[4]);
     let h = wide(head[6]);
+    let two = head[9] == 2;
+    if two {
+        text(b"two fields of ");
+    }
     number(w);
     text(b" by ");
     number(h);
@@ -236,6 +320,7 @@ fn recording(fd: i32, name: &[u8]) -> bool {
         Head {
             size: Size { w, h },
             n: product(head[4], head[6]),
+            two,
             lists: has(head[10], 1),
             t8: has(head[10], 2),
             free: has(head[10], 16),

@@ -1,131 +1,71 @@
-// A recorded picture filtered anew: as a whole, and by visits in three orders with refused ones among them.
-// A verdict is true exactly where the planes that were made are the recorded ones (`Judged` of specs/Orders).
+// A recording filtered anew: each picture of it as a whole, and by visits in three orders with refused ones
+// among them, those of two fields mixed. A verdict is true exactly where the planes that were made are the
+// recorded ones (`Judged` of specs/Orders). Names are those of both.rt.
 ghost use mathlib.Core.Path.{_≡_};
 ghost use mathlib.Core.Bool.{true};
 ghost use mathlib.Core.Logic.{_↔_};
-ghost use Prim.Native.Nat.{_<_, _≤_};
 ghost use Rattle.edges.specs.Picture.{planes};
-ghost use Rattle.pictures.specs.Checks.{lent};
 ghost use Rattle.recordings.specs.Bytes.{copied};
-ghost use Rattle.recordings.specs.Orders.{isWhole, countOf, visitedIn, turnsOf, visitsTo, filtered, Becomes, ComesOut, Judged};
+ghost use Rattle.recordings.specs.Orders.{recording, visitsTo, filtered, Becomes, ComesOut, Judged};
+ghost use Rattle.recordings.specs.Ways.{turnsOf};
+use crate::both::Shape;
+use crate::both::frames;
+use crate::both::most;
+use crate::both::turn_of_both;
+use crate::both::whole_of_both;
 use crate::bytes::all_ones;
 use crate::bytes::copy;
-use crate::grids::column;
-use crate::grids::row;
+use crate::grids::only_if;
 use crate::space;
-use edges::Offsets;
-use pictures::rows::filter_frame;
-use sizes::Size;
-use visits::visits::visit;
-
-// 120 passes over n macroblocks: each pass visits one at least, so n are enough.
-fn turns(n: usize) -> usize
-    ensures { λ r. ⌜ r ≤ 14400 ⌝ }
-    ensures { λ r. ⌜ r ≡ turnsOf n ⌝ }
-{
-    if 120 < n {
-        return 0;
-    }
-    120 * n
-}
-
-// How a picture is filtered: by the whole-picture call, or by visits in raster order, from the last
-// macroblock to the first, or in leaps of 131: a prime above 120, so that each pass has every macroblock.
-pub enum Way {
-    Whole,
-    Raster,
-    Reverse,
-    Leaps,
-}
-
-fn is_whole(way: Way) -> bool
-    ensures { λ r. ⌜ r ≡ isWhole way ⌝ }
-{
-    match way {
-        Way::Whole => true,
-        Way::Raster => false,
-        Way::Reverse => false,
-        Way::Leaps => false,
-    }
-}
-
-fn count(way: Way, t: usize) -> usize
-    requires { ⌜ t < 14400 ⌝ }
-    ensures { λ r. ⌜ r ≡ countOf way t ⌝ }
-{
-    match way {
-        Way::Whole => t,
-        Way::Raster => t,
-        Way::Reverse => 14399 - t,
-        Way::Leaps => 131 * t,
-    }
-}
-
-// The macroblock that is visited in turn t.
-fn place(way: Way, t: usize, n: usize) -> usize
-    requires { ⌜ t < 14400 ⌝ }
-    ensures { λ r. ⌜ r ≡ visitedIn way t n ⌝ }
-{
-    if n == 0 {
-        return 0;
-    }
-    count(way, t) % n
-}
+use crate::ways::Way;
+use crate::ways::is_whole;
+use crate::ways::turns;
 
 // Tries all macroblocks again and again, so that each has a turn after those that it waits for.
 fn visits_in(
     way: Way,
-    size: Size,
-    n: usize,
-    o: Offsets,
+    h: Shape,
     luma: &mut [u8],
     u: &mut [u8],
     v: &mut [u8],
     s: &[u8],
-    qps: &[u8],
-    t8s: &[u8],
+    q: &[u8],
+    t: &[u8],
+    s2: &[u8],
+    q2: &[u8],
+    t2: &[u8],
     marks: &mut [u8],
+    marks2: &mut [u8],
 )
-    ensures { λ _. ⌜ (planes (now (luma .exit)) (now (u .exit)) (now (v .exit)), now (marks .exit)) ≡ visitsTo (turnsOf n) way (lent size o (now (s .entry)) (now (qps .entry)) (now (t8s .entry))) n (planes (now (luma .entry)) (now (u .entry)) (now (v .entry)), now (marks .entry)) ⌝ }
+    ensures { λ _. ⌜ (planes (now (luma .exit)) (now (u .exit)) (now (v .exit)), now (marks .exit), now (marks2 .exit)) ≡ visitsTo (turnsOf (h .n)) way (recording h (now (s .entry)) (now (q .entry)) (now (t .entry)) (now (s2 .entry)) (now (q2 .entry)) (now (t2 .entry))) (planes (now (luma .entry)) (now (u .entry)) (now (v .entry)), now (marks .entry), now (marks2 .entry)) ⌝ }
 {
-    for t in 0..turns(n) {
-        let i = place(way, t, n);
-        visit(
-            size,
-            column(i, size.w),
-            row(i, size.w),
-            o,
-            luma,
-            u,
-            v,
-            s,
-            qps,
-            t8s,
-            marks,
-        );
+    for k in 0..turns(h.n) {
+        turn_of_both(way, k, h, luma, u, v, s, q, t, s2, q2, t2, marks, marks2);
     }
 }
 
 fn filter(
     way: Way,
-    size: Size,
-    n: usize,
-    o: Offsets,
+    h: Shape,
     luma: &mut [u8],
     u: &mut [u8],
     v: &mut [u8],
     s: &[u8],
-    qps: &[u8],
-    t8s: &[u8],
+    q: &[u8],
+    t: &[u8],
+    s2: &[u8],
+    q2: &[u8],
+    t2: &[u8],
     marks: &mut [u8],
+    marks2: &mut [u8],
 )
-    ensures { λ _. ⌜ (planes (now (luma .exit)) (now (u .exit)) (now (v .exit)), now (marks .exit)) ≡ filtered way (lent size o (now (s .entry)) (now (qps .entry)) (now (t8s .entry))) n (planes (now (luma .entry)) (now (u .entry)) (now (v .entry)), now (marks .entry)) ⌝ }
+    ensures { λ _. ⌜ (planes (now (luma .exit)) (now (u .exit)) (now (v .exit)), now (marks .exit), now (marks2 .exit)) ≡ filtered way (recording h (now (s .entry)) (now (q .entry)) (now (t .entry)) (now (s2 .entry)) (now (q2 .entry)) (now (t2 .entry))) (planes (now (luma .entry)) (now (u .entry)) (now (v .entry)), now (marks .entry), now (marks2 .entry)) ⌝ }
 {
     if is_whole(way) {
-        filter_frame(size, o, luma, u, v, s, qps, t8s);
+        whole_of_both(h, luma, u, v, s, q, t, s2, q2, t2);
         return;
     }
-    visits_in(way, size, n, o, luma, u, v, s, qps, t8s, marks);
+    visits_in(way, h, luma, u, v, s, q, t, s2, q2, t2, marks, marks2);
 }
 
 fn copies(ty: &mut [u8], tu: &mut [u8], tv: &mut [u8], luma: &[u8], u: &[u8], v: &[u8])
@@ -145,9 +85,7 @@ fn same(ty: &[u8], tu: &[u8], tv: &[u8], ay: &[u8], au: &[u8], av: &[u8]) -> boo
 // Whether planes that are filled with luma, u and v become ay, au and av.
 fn becomes(
     way: Way,
-    size: Size,
-    n: usize,
-    o: Offsets,
+    h: Shape,
     luma: &[u8],
     u: &[u8],
     v: &[u8],
@@ -155,27 +93,29 @@ fn becomes(
     au: &[u8],
     av: &[u8],
     s: &[u8],
-    qps: &[u8],
-    t8s: &[u8],
+    q: &[u8],
+    t: &[u8],
+    s2: &[u8],
+    q2: &[u8],
+    t2: &[u8],
     ty: &mut [u8],
     tu: &mut [u8],
     tv: &mut [u8],
     marks: &mut [u8],
+    marks2: &mut [u8],
 ) -> bool
-    ensures { λ r. ⌜ (r ≡ true) ↔ Becomes way (lent size o (now (s .entry)) (now (qps .entry)) (now (t8s .entry))) n (planes (copied (now (ty .entry)) (now (luma .entry))) (copied (now (tu .entry)) (now (u .entry))) (copied (now (tv .entry)) (now (v .entry))), now (marks .entry)) (planes (now (ay .entry)) (now (au .entry)) (now (av .entry))) ⌝ }
+    ensures { λ r. ⌜ (r ≡ true) ↔ Becomes way (recording h (now (s .entry)) (now (q .entry)) (now (t .entry)) (now (s2 .entry)) (now (q2 .entry)) (now (t2 .entry))) (planes (copied (now (ty .entry)) (now (luma .entry))) (copied (now (tu .entry)) (now (u .entry))) (copied (now (tv .entry)) (now (v .entry))), now (marks .entry), now (marks2 .entry)) (planes (now (ay .entry)) (now (au .entry)) (now (av .entry))) ⌝ }
 {
     copies(ty, tu, tv, luma, u, v);
-    filter(way, size, n, o, ty, tu, tv, s, qps, t8s, marks);
-    let visited = is_whole(way) | all_ones(marks);
+    filter(way, h, ty, tu, tv, s, q, t, s2, q2, t2, marks, marks2);
+    let visited = is_whole(way) | (all_ones(marks) & all_ones(marks2));
     visited & same(ty, tu, tv, ay, au, av)
 }
 
-// The same in planes of this function's own, for at most 120 macroblocks.
+// The same in planes of this function's own.
 fn holds(
     way: Way,
-    size: Size,
-    n: usize,
-    o: Offsets,
+    h: Shape,
     luma: &[u8],
     u: &[u8],
     v: &[u8],
@@ -183,25 +123,30 @@ fn holds(
     au: &[u8],
     av: &[u8],
     s: &[u8],
-    qps: &[u8],
-    t8s: &[u8],
+    q: &[u8],
+    t: &[u8],
+    s2: &[u8],
+    q2: &[u8],
+    t2: &[u8],
 ) -> bool
-    ensures { λ r. ⌜ (r ≡ true) ↔ ComesOut way (lent size o (now (s .entry)) (now (qps .entry)) (now (t8s .entry))) n (planes (now (luma .entry)) (now (u .entry)) (now (v .entry))) (planes (now (ay .entry)) (now (au .entry)) (now (av .entry))) ⌝ }
+    ensures { λ r. ⌜ (r ≡ true) ↔ ComesOut way (recording h (now (s .entry)) (now (q .entry)) (now (t .entry)) (now (s2 .entry)) (now (q2 .entry)) (now (t2 .entry))) (planes (now (luma .entry)) (now (u .entry)) (now (v .entry))) (planes (now (ay .entry)) (now (au .entry)) (now (av .entry))) ⌝ }
 {
-    if 120 < n {
+    let n = h.n;
+    if most(h.two) < n {
         return false;
     }
     let mut ty = space::luma();
     let mut tu = space::chroma();
     let mut tv = space::chroma();
     let mut marks = space::marks();
-    let ky = 256 * n;
-    let kc = 64 * n;
+    let mut marks2 = space::marks();
+    let m = frames(h.two, n);
+    let n2 = only_if(h.two, n);
+    let ky = 256 * m;
+    let kc = 64 * m;
     becomes(
         way,
-        size,
-        n,
-        o,
+        h,
         luma,
         u,
         v,
@@ -209,16 +154,20 @@ fn holds(
         au,
         av,
         s,
-        qps,
-        t8s,
+        q,
+        t,
+        s2,
+        q2,
+        t2,
         &mut ty[..ky],
         &mut tu[..kc],
         &mut tv[..kc],
         &mut marks[..n],
+        &mut marks2[..n2],
     )
 }
 
-// Whether a picture came out as recorded, in each way.
+// Whether a recording came out as recorded, in each way.
 pub struct Verdicts {
     pub whole: bool,
     pub raster: bool,
@@ -227,9 +176,7 @@ pub struct Verdicts {
 }
 
 pub fn all(
-    size: Size,
-    n: usize,
-    o: Offsets,
+    h: Shape,
     luma: &[u8],
     u: &[u8],
     v: &[u8],
@@ -237,29 +184,18 @@ pub fn all(
     au: &[u8],
     av: &[u8],
     s: &[u8],
-    qps: &[u8],
-    t8s: &[u8],
+    q: &[u8],
+    t: &[u8],
+    s2: &[u8],
+    q2: &[u8],
+    t2: &[u8],
 ) -> Verdicts
-    ensures { λ r. ⌜ Judged (lent size o (now (s .entry)) (now (qps .entry)) (now (t8s .entry))) n (planes (now (luma .entry)) (now (u .entry)) (now (v .entry))) (planes (now (ay .entry)) (now (au .entry)) (now (av .entry))) r ⌝ }
+    ensures { λ r. ⌜ Judged (recording h (now (s .entry)) (now (q .entry)) (now (t .entry)) (now (s2 .entry)) (now (q2 .entry)) (now (t2 .entry))) (planes (now (luma .entry)) (now (u .entry)) (now (v .entry))) (planes (now (ay .entry)) (now (au .entry)) (now (av .entry))) r ⌝ }
 {
-    let whole = holds(Way::Whole, size, n, o, luma, u, v, ay, au, av, s, qps, t8s);
-    let raster = holds(Way::Raster, size, n, o, luma, u, v, ay, au, av, s, qps, t8s);
-    let reverse = holds(
-        Way::Reverse,
-        size,
-        n,
-        o,
-        luma,
-        u,
-        v,
-        ay,
-        au,
-        av,
-        s,
-        qps,
-        t8s,
-    );
-    let leaps = holds(Way::Leaps, size, n, o, luma, u, v, ay, au, av, s, qps, t8s);
+    let whole = holds(Way::Whole, h, luma, u, v, ay, au, av, s, q, t, s2, q2, t2);
+    let raster = holds(Way::Raster, h, luma, u, v, ay, au, av, s, q, t, s2, q2, t2);
+    let reverse = holds(Way::Reverse, h, luma, u, v, ay, au, av, s, q, t, s2, q2, t2);
+    let leaps = holds(Way::Leaps, h, luma, u, v, ay, au, av, s, q, t, s2, q2, t2);
     Verdicts {
         whole,
         raster,

@@ -9,20 +9,20 @@ use Rattle.laws.specs.Some.{every}
 use Rattle.laws.proofs.Loop.{upTo-none, upTo-more, upTo-end}
 use Rattle.laws.proofs.Some.{every-none, every-more, every-end}
 use Rattle.motion.specs.Grids.{grids}
-use Rattle.recordings.specs.Grids.{served, derivedTo}
+use Rattle.recordings.specs.Grids.{servedAt, derivedTo}
 use Rattle.recordings.proofs.Derived.{turn}
 use Rattle.recordings.proofs.grids.derive.Statement.{statement}
 use Rattle.recordings.proofs.grids.derive.Tie as tie
 
 abbrev Inv : tie.InvT-loop
-Inv size n inter nnz ref0 mv0 ref1 mv1 t8s s₀ done₀ i₀ s done i =
+Inv size field n inter nnz ref0 mv0 ref1 mv1 t8s s₀ done₀ i₀ s done i =
     (i ≤ n)
     × (length s ≡ length s₀)
-    × (done ≡ every i (served size (grids inter nnz ref0 mv0 ref1 mv1) t8s (length s₀)))
-    × (s ≡ derivedTo size (grids inter nnz ref0 mv0 ref1 mv1) t8s i s₀)
+    × (done ≡ every i (servedAt size (grids inter nnz ref0 mv0 ref1 mv1) (length s₀)))
+    × (s ≡ derivedTo size field (grids inter nnz ref0 mv0 ref1 mv1) t8s i s₀)
 
 abbrev μ : tie.MeasureT-loop
-μ size n inter nnz ref0 mv0 ref1 mv1 t8s s₀ done₀ i₀ s done i = n - i
+μ size field n inter nnz ref0 mv0 ref1 mv1 t8s s₀ done₀ i₀ s done i = n - i
 
 loop-again : tie.Need-loop-again Inv μ
 loop-again c =
@@ -35,7 +35,7 @@ loop-again c =
     let a = l .before .before .before .before .before .args in
     let g = grids (a .inter .now) (a .nnz .now) (a .ref0 .now) (a .mv0 .now) (a .ref1 .now) (a .mv1 .now) in
     let i = l .loop .inv in
-    let t = turn (a .size) g (a .t8s .now) (l .loop .i) (length (a .s .now)) (i .1) (k .column .ensures) (r .row .ensures) (b .byte-at .ensures) (q .derive-mb .ensures) in (
+    let t = turn (a .size) (a .field) g (a .t8s .now) (l .loop .i) (length (a .s .now)) (i .1) (k .column .ensures) (r .row .ensures) (b .byte-at .ensures) (q .derive-mb .ensures) in (
       omega (arith, test .loop-test .taken),
       omega (arith, i, q .derive-mb .kept),
       every-more _ _ (i .2) (ap (λ (x : Bool). l .loop .done && x) (t .0)),

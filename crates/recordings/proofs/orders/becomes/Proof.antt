@@ -6,10 +6,12 @@ use Rattle.recordings.proofs.orders.becomes.Tie as tie
 
 returns : tie.Need-returns
 returns c =
-    let w = c .before .before .before .before .before .before in
-    let f = w .before .before .before .before .before .before .before .before .before in
-    let k = f .before .before .before .before .before .before .before .before .before .before .before .copies .ensures in
-    becomes _ _ _ (rw (k .0, k .1, k .2) at (f .filter .ensures)) (w .is-whole .ensures) (c .before .before .before .before .all-ones .ensures) (c .same .ensures)
+    let o₂ = c .before .before .before .before in
+    let o = o₂ .before .before in
+    let w = o .before .before in
+    let f = w .before .before .before .before .before .before .before .before .before .before .before in
+    let k = f .before .before .before .before .before .before .before .before .before .before .before .before .copies .ensures in
+    becomes _ _ _ _ (rw (k .0, k .1, k .2) at (f .filter .ensures)) (w .is-whole .ensures) (o .all-ones .ensures) (o₂ .all-ones2 .ensures) (c .same .ensures)
 
 pub becomes-spec : {M : Type 1} → statement M
 becomes-spec =
@@ -20,6 +22,8 @@ becomes-spec =
     (λ c κs. search needs)
     (λ c κs. search needs)
     (λ c κs. search needs)
+    (λ c κs. search needs)
+    (λ c. search needs)
     (λ c. search needs)
     (λ c. search needs)
     (λ c. search needs)

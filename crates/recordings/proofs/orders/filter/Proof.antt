@@ -1,6 +1,6 @@
--- `filter`: by whether the way is the whole-picture call. Assumes nothing.
+-- `filter`: by whether the way is the call for whole pictures. Assumes nothing.
 use borrow.Author.Needs.{needs}
-use Rattle.recordings.proofs.Ways.{by-frame, by-visits}
+use Rattle.recordings.proofs.Turns.{by-wholes, by-visits}
 use Rattle.recordings.proofs.orders.filter.Statement.{statement}
 use Rattle.recordings.proofs.orders.filter.Tie as tie
 
@@ -8,13 +8,13 @@ returns : tie.Need-returns
 returns c =
     let q = c .before .before .before .before .before .before in
     let t = q .before .before .before .before in
-    by-frame _ _ _ (t .before .is-whole .ensures) (t .if1 .taken) (q .filter-frame .ensures)
+    by-wholes _ _ (t .before .is-whole .ensures) _ (t .if1 .taken) (q .whole-of-both .ensures)
 
 returns-2 : tie.Need-returns-2
 returns-2 c =
-    let q = c .before .before .before .before .before .before .before .before in
-    let t = q .before .before .before .before .before in
-    by-visits _ _ _ (t .before .is-whole .ensures) _ (t .if1 .left) (q .visits-in .ensures)
+    let q = c .before .before .before .before .before .before .before .before .before .before in
+    let t = q .before .before .before .before .before .before in
+    by-visits _ _ (t .before .is-whole .ensures) _ (t .if1 .left) (q .visits-in .ensures)
 
 pub filter-spec : {M : Type 1} → statement M
 filter-spec =
@@ -27,6 +27,7 @@ filter-spec =
     (λ c. search needs)
     returns
     (λ c κs. search needs)
+    (λ c. search needs)
     (λ c. search needs)
     (λ c. search needs)
     (λ c. search needs)

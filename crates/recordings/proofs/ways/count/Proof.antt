@@ -1,7 +1,8 @@
 -- `count`: by the ways. Assumes nothing.
 use borrow.Author.Needs.{needs}
-use Rattle.recordings.proofs.orders.count.Statement.{statement}
-use Rattle.recordings.proofs.orders.count.Tie as tie
+use native.Mathlib.Omega.{arith}
+use Rattle.recordings.proofs.ways.count.Statement.{statement}
+use Rattle.recordings.proofs.ways.count.Tie as tie
 
 pub count-spec : {M : Type 1} → statement M
 count-spec =
@@ -15,5 +16,5 @@ count-spec =
     (λ c. search needs)
     (λ c. search needs)
     (λ c. search needs)
-    (λ c. rw (c .enum-told3 .given .1))
-    (λ c. rw (c .enum-told4 .given .1)))
+    (λ c. (omega arith, rw (c .enum-told3 .given .1)))
+    (λ c. (omega arith, rw (c .enum-told4 .given .1))))

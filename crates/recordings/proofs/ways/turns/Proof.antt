@@ -2,8 +2,8 @@
 use borrow.Author.Needs.{needs}
 use borrow.Author.Tests.{lt-ltb, le-ltb}
 use native.Mathlib.Omega.{arith}
-use Rattle.recordings.proofs.orders.turns.Statement.{statement}
-use Rattle.recordings.proofs.orders.turns.Tie as tie
+use Rattle.recordings.proofs.ways.turns.Statement.{statement}
+use Rattle.recordings.proofs.ways.turns.Tie as tie
 
 pub turns-spec : {M : Type 1} → statement M
 turns-spec =

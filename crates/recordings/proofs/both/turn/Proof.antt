@@ -1,0 +1,28 @@
+-- `turn`: the macroblock of the turn, visited. Assumes nothing.
+use borrow.Author.Needs.{needs}
+use Rattle.recordings.proofs.Turns.{turn}
+use Rattle.recordings.proofs.both.turn.Statement.{statement}
+use Rattle.recordings.proofs.both.turn.Tie as tie
+
+returns : tie.Need-returns
+returns c =
+    let q = c .before .before .before .before .before .before .before .before in
+    let r = q .before .before .before .before .before in
+    let k = r .before in
+    let p = k .before in
+    let a = p .before .before .before .before .before .before .before .before .before .args in
+    turn (a .way) (a .ahead) (a .part) _ (a .h .n) (a .k) (p .place .ensures) (k .column .ensures) (r .row .ensures) (q .visit .ensures)
+
+pub turn-spec : {M : Type 1} → statement M
+turn-spec =
+    tie.close
+    (tie.spec
+    (λ c κs. search needs)
+    (λ c κs. search needs)
+    (λ c κs. search needs)
+    (λ c κs. search needs)
+    (λ c. search needs)
+    (λ c. search needs)
+    (λ c. search needs)
+    (λ c. search needs)
+    returns)

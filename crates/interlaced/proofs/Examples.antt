@@ -1,14 +1,11 @@
 -- Worked examples: the answers to requests to both fields, of one macroblock each. Assumes nothing.
 use mathlib.Core.Path.{_≡_, refl}
-use mathlib.Core.List.{List, [], _∷_, replicate}
-use Prim.Native.Nat.{ℕ}
+use mathlib.Core.List.{[], _∷_, replicate}
 use lib.IntN.{pos}
-use Rattle.laws.specs.Some.{some}
-use Rattle.edges.specs.Picture.{Planes, planes}
+use Rattle.edges.specs.Picture.{planes}
 use Rattle.sizes.specs.declared.Size.{Size}
-use Rattle.pictures.specs.Checks.{someBad}
-use Rattle.visits.specs.Checks.{badMarks, badQps, earlyIn}
-use Rattle.visits.specs.Visit.{answer, waiting, visit, answers}
+use Rattle.visits.specs.Checks.{earlyIn}
+use Rattle.visits.specs.Visit.{answer, visit, answers}
 use Rattle.interlaced.specs.Both.{OfField, ofField, unvisitedBoth, bothVisit}
 
 abbrev one : Size

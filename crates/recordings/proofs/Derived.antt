@@ -1,7 +1,7 @@
 -- A turn of `derive` is the turn of the definition, and its outcome with the reading's. Assumes nothing.
 use Prim.Native.Nat.{ℕ}
 use mathlib.Core.Path.{_≡_, sym, _∙_}
-use mathlib.Core.Bool.{Bool, true, not, _&&_}
+use mathlib.Core.Bool.{Bool, not, _&&_}
 use mathlib.Core.List.{List}
 use lib.Dec.{eqb}
 use lib.ListN.{length, getD}
@@ -10,7 +10,6 @@ use Rattle.laws.proofs.Bools.{and-true}
 use Rattle.sizes.specs.declared.Size.{Size}
 use Rattle.motion.specs.Grids.{Grids}
 use Rattle.strengths.specs.Calls.{PlainOutcome}
-use Rattle.strengths.specs.declared.kinds.Plain.{Plain}
 use Rattle.recordings.specs.Grids.{servedAt, derivedAt, derivedTo, DerivedAll}
 use Rattle.recordings.specs.Places.{columnAt, rowAt}
 

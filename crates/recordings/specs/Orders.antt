@@ -71,8 +71,8 @@ turnIn way r t s = secondTurn way r t (firstTurn way r t s)
 abbrev pub visitsTo : ℕ → Way → Recording → WithMarks → WithMarks
 visitsTo k way r = upTo k (turnIn way r)
 
--- ---- the call for a whole picture: all rows, or the planes as they are where it is refused; of a frame, or of
--- the top field and then of the bottom field
+-- ---- the call for a whole picture: all rows, or the planes as they are where it is refused; of a frame, or
+-- of the top field and then of the bottom field
 abbrev pub whole : Part → Lent → Planes → Planes
 whole part d p = cond (eqb (rowAnswer part d 0 (d .size .h) p) 0) (onPart part (d .size) (rowsOf (heldOf d) 0 (d .size .h)) p) p
 

@@ -1,6 +1,6 @@
 // The pictures of a recording: one, the frame, or two, its fields. What is made of both, one after the other.
-// The planes are the frame's; each picture has its offsets, strengths s, QPs q, 8x8 flags t and marks, those of
-// the second end in 2.
+// The planes are the frame's; each picture has its offsets, strengths s, QPs q, 8x8 flags t and marks, those
+// of the second end in 2.
 ghost use mathlib.Core.Path.{_≡_};
 ghost use Prim.Native.Nat.{_<_, _≤_};
 ghost use Rattle.edges.specs.Picture.{planes};

@@ -48,8 +48,8 @@ struct Head {
     chroma: i32,
 }
 
-// What was read of a picture's grids and strengths: whether it was all there, and whether the strengths derived
-// from the grids are those of the file, by `check::same` of the kit.
+// What was read of a picture's grids and strengths: whether it was all there, and whether the strengths
+// derived from the grids are those of the file, by `check::same` of the kit.
 struct Strengths {
     good: bool,
     same: bool,

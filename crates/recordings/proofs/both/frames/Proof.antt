@@ -1,5 +1,4 @@
 -- `frames`: by whether there are two. Assumes nothing.
-use borrow.Author.Needs.{needs}
 use native.Mathlib.Omega.{arith}
 use Rattle.recordings.proofs.both.frames.Statement.{statement}
 use Rattle.recordings.proofs.both.frames.Tie as tie

@@ -2,4 +2,5 @@
 // its caller. include/deblock.h declares them.
 pub mod derivation;
 pub mod filtering;
+pub mod streams;
 pub mod visiting;

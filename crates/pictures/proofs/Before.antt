@@ -8,9 +8,9 @@ use lib.Dec.{eqb}
 use lib.ListN.{length}
 use Rattle.laws.specs.Refusal.{refusal}
 use Rattle.edges.specs.Picture.{Planes, rowsOf}
-use Rattle.sizes.specs.Sizes.{badSize}
+use Rattle.sizes.specs.Sizes.{badSize, badPlanes}
 use Rattle.sizes.specs.declared.Part.the-variants.{Frame}
-use Rattle.pictures.specs.Checks.{Lent, heldOf, badPlanes, badLent, badOffsets, badQp, someBad, someBadFlag, someBadStrength}
+use Rattle.pictures.specs.Checks.{Lent, heldOf, badLent, badOffsets, badQp, someBad, someBadFlag, someBadStrength}
 use Rattle.pictures.specs.Rows.{badRange, qpsFrom, rowAnswer, RowOutcome}
 
 module _ (d : Lent) (a b : ℕ) (p : Planes) where

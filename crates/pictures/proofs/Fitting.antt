@@ -5,10 +5,10 @@ use Prim.Native.Nat.{ℕ, _*_}
 use lib.Dec.{eqb}
 use lib.ListN.{length}
 use Rattle.laws.proofs.Bools.{or-false, equal, full}
-use Rattle.sizes.specs.Sizes.{badSize, badParity, frameOfPart}
+use Rattle.sizes.specs.Sizes.{badSize, badParity, frameOfPart, badPlanes}
 use Rattle.sizes.specs.declared.Part.{Part}
-use Rattle.sizes.proofs.Sized.{Sized, sized}
-use Rattle.pictures.specs.Checks.{Lent, badPlanes, badLent}
+use Rattle.sizes.proofs.Sized.{Sized, sized, planes-fit}
+use Rattle.pictures.specs.Checks.{Lent, badLent}
 
 -- ly, lu, lv are the lengths of the planes
 pub record Fitting (part : Part) (d : Lent) (ly lu lv : ℕ) : Type 0 where
@@ -26,16 +26,15 @@ pub fitting : (part : Part) (d : Lent) (ly lu lv : ℕ) → badSize (d .size) �
     → badPlanes (frameOfPart part (d .size .w * d .size .h)) ly lu lv ≡ false
     → badLent (d .size .w * d .size .h) (length (d .strengths)) (length (d .qps)) (length (d .t8s)) ≡ false → Fitting part d ly lu lv
 fitting part d ly lu lv one nineteen three four =
-    let planes = or-false _ _ three in
-    let two = or-false _ _ (planes .0) in
+    let planes = planes-fit _ ly lu lv three in
     let grids = or-false _ _ four in
     let first = or-false _ _ (grids .0) in
     record {
       sides = sized (d .size) one;
       parity = nineteen;
-      luma = equal _ _ (two .0);
-      u = equal _ _ (two .1);
-      v = equal _ _ (planes .1);
+      luma = planes .luma-is;
+      u = planes .u-is;
+      v = planes .v-is;
       strengths = equal _ _ (first .0);
       qps = equal _ _ (first .1);
       t8s = full (length (d .t8s)) (d .size .w * d .size .h) (grids .1);

@@ -13,7 +13,7 @@ use Rattle.edges.specs.Picture.{Held, held}
 use Rattle.edges.specs.declared.Offsets.{Offsets}
 use Rattle.sizes.specs.declared.Part.{Part}
 use Rattle.sizes.specs.declared.Size.{Size}
-use Rattle.sizes.specs.Sizes.{badSize, badParity, frameOfPart}
+use Rattle.sizes.specs.Sizes.{badSize, badParity, frameOfPart, badPlanes}
 
 -- what is lent beside the planes, and only read
 pub record Lent : Type 0 where
@@ -29,10 +29,6 @@ lent size o s q t = record { size = size; offsets = o; strengths = s; qps = q; t
 -- .. as the filter takes it
 abbrev pub heldOf : Lent → Held
 heldOf d = held (d .size .w) (d .strengths) (d .qps) (d .t8s) (d .offsets)
-
--- 3: a plane has the wrong length
-abbrev pub badPlanes : ℕ → ℕ → ℕ → ℕ → Bool
-badPlanes n luma u v = not (eqb luma (256 * n)) || not (eqb u (64 * n)) || not (eqb v (64 * n))
 
 -- 4: a per-macroblock grid has the wrong length; that of the flags may be empty
 abbrev pub badLent : ℕ → ℕ → ℕ → ℕ → Bool

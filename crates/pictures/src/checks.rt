@@ -6,11 +6,12 @@ ghost use lib.Dec.{eqb, ltb};
 ghost use lib.ListN.{length};
 ghost use Rattle.laws.specs.Refusal.{refusal};
 ghost use Rattle.sizes.specs.Sizes.{frameOfPart};
-ghost use Rattle.pictures.specs.Checks.{badPlanes, badLent, badOffsets, someBad, someBadFlag, someBadStrength, pictureChecks, gridChecks};
+ghost use Rattle.pictures.specs.Checks.{badLent, badOffsets, someBad, someBadFlag, someBadStrength, pictureChecks, gridChecks};
 use edges::Offsets;
 use sizes::Part;
 use sizes::Size;
 use sizes::bad_parity;
+use sizes::bad_planes;
 use sizes::bad_size;
 
 // How many macroblocks the planes have that a picture of n is part of.
@@ -22,14 +23,6 @@ fn frame_of_part(part: Part, n: usize) -> usize
         Part::Frame => n,
         Part::Field(_) => 2 * n,
     }
-}
-
-// Check 3: lengths of planes, for n macroblocks.
-fn bad_planes(n: usize, luma: usize, u: usize, v: usize) -> bool
-    requires { ⌜ n ≤ 73728 ⌝ }
-    ensures { λ r. ⌜ r ≡ badPlanes n luma u v ⌝ }
-{
-    (luma != 256 * n) | (u != 64 * n) | (v != 64 * n)
 }
 
 // Check 4: lengths of the grids by macroblock.

@@ -1,14 +1,14 @@
--- What check 1 says when it does not apply, and how large the planes of a part's frame are then. Assumes
+-- What checks 1 and 3 say when they do not apply, and how large the planes of a part's frame are then. Assumes
 -- nothing.
 use mathlib.Core.Path.{_≡_}
-use mathlib.Core.Bool.{false, _||_}
+use mathlib.Core.Bool.{false, not, _||_}
 use Prim.Native.Nat.{ℕ, _*_, _≤_, _<_}
 use native.Mathlib.Nat.{mul-le-mul}
 use native.Mathlib.Omega.{arith}
 use borrow.Author.Tests.{eqb-false, ltb-false}
 use lib.Dec.{eqb, ltb}
-use Rattle.laws.proofs.Bools.{or-false}
-use Rattle.sizes.specs.Sizes.{badSize, frameOfPart}
+use Rattle.laws.proofs.Bools.{or-false, equal}
+use Rattle.sizes.specs.Sizes.{badSize, badPlanes, frameOfPart}
 use Rattle.sizes.specs.declared.Part.{Part}
 use Rattle.sizes.specs.declared.Part.the-variants.{Frame, Field}
 use Rattle.sizes.specs.declared.Size.{Size}
@@ -49,6 +49,18 @@ pub sized : (size : Size) → badSize size ≡ false → Sized size
 sized size e =
     let a = or-false (eqb (size .w) 0 || ltb 256 (size .w) || eqb (size .h) 0 || ltb 256 (size .h)) (ltb 36864 (size .w * size .h)) e in
     record { both = sides (size .w) (size .h) (a .0); most = ltb-false 36864 (size .w * size .h) (a .1) }
+
+-- planes that are not refused have their lengths
+pub record PlanesFit (n luma u v : ℕ) : Type 0 where
+  pub luma-is : luma ≡ 256 * n
+  pub u-is : u ≡ 64 * n
+  pub v-is : v ≡ 64 * n
+
+pub planes-fit : (n luma u v : ℕ) → badPlanes n luma u v ≡ false → PlanesFit n luma u v
+planes-fit n luma u v e =
+    let p = or-false (not (eqb luma (256 * n)) || not (eqb u (64 * n))) (not (eqb v (64 * n))) e in
+    let q = or-false (not (eqb luma (256 * n))) (not (eqb u (64 * n))) (p .0) in
+    record { luma-is = equal luma (256 * n) (q .0); u-is = equal u (64 * n) (q .1); v-is = equal v (64 * n) (p .1) }
 
 -- the planes of a part's frame: at most two pictures
 pub frame-most : (part : Part) {n : ℕ} → n ≤ 36864 → frameOfPart part n ≤ 73728

@@ -1,6 +1,7 @@
--- Checks 1, 2 and 19, each as whether it applies: docs/RULES.md, "Sizes and layouts", "Fields" and "Answers".
+-- Checks 1, 2, 19 and 3, each as whether it applies: docs/RULES.md, "Sizes and layouts", "Fields" and
+-- "Answers".
 use Prim.Native.Nat.{ℕ, _*_}
-use mathlib.Core.Bool.{Bool, false, _||_}
+use mathlib.Core.Bool.{Bool, false, not, _||_}
 use lib.Dec.{eqb, ltb, leb}
 use Rattle.sizes.specs.declared.Part.{Part}
 use Rattle.sizes.specs.declared.Part.the-variants.{Frame, Field}
@@ -23,3 +24,7 @@ badParity (Field p) = ltb 1 p
 abbrev pub frameOfPart : Part → ℕ → ℕ
 frameOfPart Frame n = n
 frameOfPart (Field p) n = 2 * n
+
+-- 3: a plane has the wrong length for n macroblocks
+abbrev pub badPlanes : ℕ → ℕ → ℕ → ℕ → Bool
+badPlanes n luma u v = not (eqb luma (256 * n)) || not (eqb u (64 * n)) || not (eqb v (64 * n))

@@ -1,7 +1,8 @@
 // A picture's size, which lines of the planes it has, and the checks of both. Whatever speaks of pictures
 // stands on this crate.
 ghost use mathlib.Core.Path.{_≡_};
-ghost use Rattle.sizes.specs.Sizes.{badSize, badParity};
+ghost use Prim.Native.Nat.{_≤_};
+ghost use Rattle.sizes.specs.Sizes.{badSize, badParity, badPlanes};
 
 // Width and height in macroblocks.
 pub struct Size {
@@ -36,4 +37,12 @@ pub fn bad_size(size: Size) -> bool
         return true;
     }
     36864 < w * h
+}
+
+// Check 3: lengths of planes, for n macroblocks.
+pub fn bad_planes(n: usize, luma: usize, u: usize, v: usize) -> bool
+    requires { ⌜ n ≤ 73728 ⌝ }
+    ensures { λ r. ⌜ r ≡ badPlanes n luma u v ⌝ }
+{
+    (luma != 256 * n) | (u != 64 * n) | (v != 64 * n)
 }

@@ -8,9 +8,9 @@ use lib.Dec.{eqb}
 use lib.ListN.{length}
 use Rattle.laws.specs.Refusal.{refusal}
 use Rattle.edges.specs.Picture.{Planes, stepOf}
-use Rattle.sizes.specs.Sizes.{badSize, outsideOf}
+use Rattle.sizes.specs.Sizes.{badSize, outsideOf, badPlanes}
 use Rattle.sizes.specs.declared.Part.the-variants.{Frame}
-use Rattle.pictures.specs.Checks.{Lent, heldOf, badPlanes, badLent, badOffsets, someBadFlag, someBadStrength}
+use Rattle.pictures.specs.Checks.{Lent, heldOf, badLent, badOffsets, someBadFlag, someBadStrength}
 use Rattle.visits.specs.Checks.{badMarks, badQps, earlyIn}
 use Rattle.visits.specs.Promise.{visitIn}
 use Rattle.visits.specs.Visit.{At, State, visit}

@@ -15,9 +15,9 @@ use Rattle.edges.proofs.Steps.{step-commute}
 use Rattle.edges.proofs.Pictures.{macroblock-sized}
 use Rattle.visits.specs.Instance.{AsksPlace, Commutes, Passes}
 use Rattle.visits.specs.Beyond.{Bits}
-use Rattle.sizes.specs.Sizes.{outsideOf}
+use Rattle.sizes.specs.Sizes.{outsideOf, badPlanes}
 use Rattle.sizes.specs.declared.Part.the-variants.{Frame}
-use Rattle.pictures.specs.Checks.{Lent, heldOf, badPlanes, badLent, badFlag, badQp, badStrength, someBad, someBadFlag}
+use Rattle.pictures.specs.Checks.{Lent, heldOf, badLent, badFlag, badQp, badStrength, someBad, someBadFlag}
 use Rattle.visits.specs.Checks.{badMark, badMarks, badQps, visitChecks, earlyIn, earlyOf, Sound, Fit}
 use Rattle.laws.proofs.Bools.{and-false}
 use Rattle.laws.proofs.Refusal.{none-applies}

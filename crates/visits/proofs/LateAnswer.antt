@@ -11,8 +11,8 @@ use lib.Dec.{eqb, leb}
 use lib.ListN.{length}
 use Rattle.laws.proofs.Bools.{or-false}
 use Rattle.edges.specs.Picture.{Planes}
-use Rattle.sizes.specs.Sizes.{outsideOf}
-use Rattle.pictures.specs.Checks.{Lent, badPlanes, badLent, Reads}
+use Rattle.sizes.specs.Sizes.{outsideOf, badPlanes}
+use Rattle.pictures.specs.Checks.{Lent, badLent, Reads}
 use Rattle.visits.specs.Visit.{At, State, marked, waiting, orElse, answer, visit}
 use Rattle.visits.specs.Beyond.{Bits}
 use Rattle.visits.specs.Checks.{earlyIn, earlyOf, visitReads, Sound, Fit}

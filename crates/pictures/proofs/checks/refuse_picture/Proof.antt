@@ -5,9 +5,8 @@ use mathlib.Core.Bool.{false, cond}
 use Prim.Native.Nat.{ℕ, _*_}
 use native.Mathlib.Omega.{arith}
 use Rattle.laws.proofs.Refusal.{skip, stop}
-use Rattle.sizes.specs.Sizes.{badSize, badParity, frameOfPart}
+use Rattle.sizes.specs.Sizes.{badSize, badParity, frameOfPart, badPlanes}
 use Rattle.sizes.proofs.Sized.{Sized, sized, frame-most}
-use Rattle.pictures.specs.Checks.{badPlanes}
 use Rattle.pictures.proofs.checks.refuse_picture.Statement.{statement}
 use Rattle.pictures.proofs.checks.refuse_picture.Tie as tie
 

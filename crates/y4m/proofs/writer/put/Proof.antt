@@ -1,0 +1,27 @@
+-- `put`: the kit's copy, over the stream from `at` on. Assumes nothing.
+use borrow.Author.Needs.{needs}
+use mathlib.Core.Path.{refl}
+use Rattle.y4m.proofs.Copied.{put-is}
+use Rattle.y4m.proofs.writer.put.Statement.{statement}
+use Rattle.y4m.proofs.writer.put.Tie as tie
+
+returns : tie.Need-returns
+returns c =
+    let t = c .before .before in
+    let q = t .before .before .before .before in
+    record {
+      end = refl;
+      stream = put-is (q .args .stream .now) (q .args .text .now) (t .copy .last .1 .0) (q .args .at) (q .pre) (t .copy .ensures .1);
+    }
+
+pub put-spec : {M : Type 1} → statement M
+put-spec =
+    tie.close
+    (tie.spec
+    (λ c. search needs)
+    (λ c. search needs)
+    (λ c. search needs)
+    (λ c κs. search needs)
+    (λ c. search needs)
+    (λ c. search needs)
+    returns)

@@ -1,0 +1,4 @@
+pub mod Text
+pub mod Stream
+pub mod Calls
+pub mod Places

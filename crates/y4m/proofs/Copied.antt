@@ -1,22 +1,40 @@
--- Laws of texts that are copied. Assumes nothing.
+-- Laws of bytes that are copied, and of texts put at a place of a stream. Assumes nothing.
 use Prim.Native.Nat.{ℕ, _+_, _-_, _<_, _≤_}
 use mathlib.Core.Path.{_≡_, refl, sym, ap, _∙_}
 use mathlib.Core.List.{List, [], _∷_, _++_, append-nil, append-assoc}
 use native.Mathlib.Omega.{arith}
-use lib.ListN.{length, take, drop, length-drop, length-append, drop-of-length-le}
-use lib.Seq.{take-length, take-all, take-at, drop-length, drop-drop, drop-append-add, length-take-le}
+use lib.ListN.{length, take, drop, length-drop, length-append, drop-of-length-le, getD, set}
+use lib.Seq.{take-length, take-all, take-at, drop-length, drop-drop, drop-append-add, length-take-le, paste, paste-suc}
 use borrow.Rule.Slice.PartMut.{putMid, post-is}
 use Rattle.y4m.specs.Places.{putAt, Put}
+use native.Mathlib.Nat.{zero-add}
+use native.Mathlib.Numerals.{add-one}
 
--- what the kit's copy makes of `to`
+-- ---- a copy that goes on byte by byte: so many of `from` before the rest of `to`
+pub pasted-one : (to from : List ℕ) {t : List ℕ} (i : ℕ) → i < length to → i < length from → t ≡ paste to 0 from i
+    → set t i (getD from i 0) ≡ paste to 0 from (i + 1)
+pasted-one to from i h k e =
+    ap (λ (l : List ℕ). set l i (getD from i 0)) e
+    ∙ ap (λ (n : ℕ). set (paste to 0 from i) n (getD from i 0)) (sym (zero-add i))
+    ∙ paste-suc to 0 from i 0 (omega arith) k
+    ∙ ap (λ (n : ℕ). paste to 0 from n) (sym (add-one i))
+
+pub pasted-all : (to from : List ℕ) {t : List ℕ} (i : ℕ) → i ≡ length from → t ≡ paste to 0 from i → t ≡ from ++ drop (length from) to
+pasted-all to from i h e =
+    e
+    ∙ (λ j. take (h j) from ++ drop (0 + h j) to)
+    ∙ ap (λ (n : ℕ). take (length from) from ++ drop n to) (zero-add (length from))
+    ∙ ap (λ (l : List ℕ). l ++ drop (length from) to) (take-length from)
+
+-- what `copy_all` makes of `to`
 abbrev copiedOver : List ℕ → List ℕ → List ℕ
-copiedOver from to = take (length from) from ++ drop (length from) to
+copiedOver from to = from ++ drop (length from) to
 
 -- over a text of the same length
 copied-whole : (from to : List ℕ) → length to ≡ length from → copiedOver from to ≡ from
 copied-whole from to h =
     let l : length to ≤ length from = omega arith in
-    ap (λ (l : List ℕ). take (length from) from ++ l) (drop-of-length-le to l) ∙ append-nil (take (length from) from) ∙ take-length from
+    ap (λ (k : List ℕ). from ++ k) (drop-of-length-le to l) ∙ append-nil from
 
 -- a part that is as long
 pub copied-part : (s to : List ℕ) (at : ℕ) → at + length to ≤ length s → copiedOver (take (at + length to - at) (drop at s)) to ≡ take (length to) (drop at s)
@@ -26,14 +44,14 @@ copied-part s to at h =
     ap (λ (k : ℕ). copiedOver (take k (drop at s)) to) d ∙ copied-whole (take (length to) (drop at s)) to (sym (length-take-le (length to) (drop at s) (omega arith)))
 
 -- ---- a text put at a place of a stream
--- by the kit's copy, over the stream from that place on
+-- copied over the stream from that place on
 pub put-is : (s text rest : List ℕ) (at : ℕ) → at + length text ≤ length s → rest ≡ copiedOver text (take (length s - at) (drop at s))
     → putMid at (length s - at) s rest ≡ putAt s at text
 put-is s text rest at h e =
     let d = length-drop at s in
     let all : take (length s - at) (drop at s) ≡ drop at s = take-all (length s - at) (drop at s) (omega arith) in
     let r : rest ≡ text ++ drop (at + length text) s =
-    e ∙ ap (λ (l : List ℕ). copiedOver text l) all ∙ (λ i. take-length text i ++ drop-drop (length text) at s i) in
+    e ∙ ap (λ (l : List ℕ). copiedOver text l) all ∙ ap (λ (l : List ℕ). text ++ l) (drop-drop (length text) at s) in
     let p = post-is at (length s) s (omega arith) ∙ drop-length s in
     ap (λ (l : List ℕ). take at s ++ l) ((λ i. r i ++ p i) ∙ append-nil (text ++ drop (at + length text) s))
 

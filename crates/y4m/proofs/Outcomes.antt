@@ -11,8 +11,8 @@ use Rattle.laws.specs.Refusal.{refusal}
 use Rattle.laws.proofs.Refusal.{first-applies, first-passed, stop, skip}
 use Rattle.sizes.specs.Sizes.{badPlanes}
 use Rattle.sizes.specs.declared.Size.{Size}
-use Rattle.y4m.specs.Calls.{ReadOutcome, found, sizeOf, macroblocks, streamChecks, readChecks}
-use Rattle.y4m.specs.Stream.{count, planesAt, lumaIn, uIn, vIn}
+use Rattle.y4m.specs.Calls.{ReadOutcome, found, sizeSaid, macroblocks, streamChecks, readChecks}
+use Rattle.y4m.specs.Stream.{count, planesAt, lumaRead, uRead, vRead}
 use Rattle.y4m.specs.Places.{SeenIn}
 use Rattle.y4m.specs.declared.Found.{Found}
 
@@ -23,23 +23,23 @@ kept s luma u v n z e f =
     let t = refusal (readChecks s (length luma) (length u) (length v)) in
     let k : eqb t 0 ≡ false = ap (λ (m : ℕ). eqb m 0) (sym e) ∙ ne-eqb n 0 z in
     record {
-      answer = f (sizeOf s) ∙ ap (λ (m : ℕ). found m (sizeOf s)) e;
-      luma = sym (ap (λ b. cond b (lumaIn (macroblocks s) s) luma) k);
-      u = sym (ap (λ b. cond b (uIn (macroblocks s) s) u) k);
-      v = sym (ap (λ b. cond b (vIn (macroblocks s) s) v) k);
+      answer = f (sizeSaid s) ∙ ap (λ (m : ℕ). found m (sizeSaid s)) e;
+      luma = sym (ap (λ b. cond b (lumaRead (macroblocks s) s) luma) k);
+      u = sym (ap (λ b. cond b (uRead (macroblocks s) s) u) k);
+      v = sym (ap (λ b. cond b (vRead (macroblocks s) s) v) k);
     }
 
 -- with 0 the planes are the stream's
 placed : (s luma u v : List ℕ) {r : Found} {luma₁ u₁ v₁ : List ℕ} → 0 ≡ refusal (readChecks s (length luma) (length u) (length v))
-    → r ≡ found 0 (sizeOf s) → luma₁ ≡ lumaIn (macroblocks s) s → u₁ ≡ uIn (macroblocks s) s → v₁ ≡ vIn (macroblocks s) s
+    → r ≡ found 0 (sizeSaid s) → luma₁ ≡ lumaRead (macroblocks s) s → u₁ ≡ uRead (macroblocks s) s → v₁ ≡ vRead (macroblocks s) s
     → ReadOutcome s luma u v r luma₁ u₁ v₁
 placed s luma u v e f p q o =
     let k : eqb (refusal (readChecks s (length luma) (length u) (length v))) 0 ≡ true = ap (λ (m : ℕ). eqb m 0) (sym e) in
     record {
-      answer = f ∙ ap (λ (m : ℕ). found m (sizeOf s)) e;
-      luma = p ∙ sym (ap (λ b. cond b (lumaIn (macroblocks s) s) luma) k);
-      u = q ∙ sym (ap (λ b. cond b (uIn (macroblocks s) s) u) k);
-      v = o ∙ sym (ap (λ b. cond b (vIn (macroblocks s) s) v) k);
+      answer = f ∙ ap (λ (m : ℕ). found m (sizeSaid s)) e;
+      luma = p ∙ sym (ap (λ b. cond b (lumaRead (macroblocks s) s) luma) k);
+      u = q ∙ sym (ap (λ b. cond b (uRead (macroblocks s) s) u) k);
+      v = o ∙ sym (ap (λ b. cond b (vRead (macroblocks s) s) v) k);
     }
 
 -- ---- the checks of a stream, then 3
@@ -68,7 +68,7 @@ module _ (s luma u v : List ℕ) {n : ℕ} {size : Size} {at : ℕ} (g : SeenIn 
         → v₁ ≡ take (64 * (size .w * size .h)) (drop (at + 320 * (size .w * size .h)) s)
         → ReadOutcome s luma u v r luma₁ u₁ v₁
     all-read h f p q o =
-        let e : size ≡ sizeOf s = g .sized z in
+        let e : size ≡ sizeSaid s = g .sized z in
         let d : at ≡ planesAt s = g .place z in
         placed s luma u v (third (skip 3 (sym planes-are ∙ h) refl)) (f ∙ ap (found 0) e)
         (p ∙ (λ i. take (256 * count (e i)) (drop (d i) s)))

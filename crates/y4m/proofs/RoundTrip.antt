@@ -13,114 +13,16 @@ use Rattle.laws.proofs.Refusal.{passes, none-applies}
 use Rattle.sizes.specs.Sizes.{badSize, badPlanes}
 use Rattle.sizes.specs.declared.Size.{Size}
 use Rattle.sizes.proofs.Sized.{PlanesFit, planes-fit}
-use Rattle.y4m.specs.Text.{ascii, same, linesOf, wordsOf, valuesOf, decimal, isDecimal, isFull, all, isDigit, part}
-use Rattle.y4m.specs.Stream.{
-  header,
-  frameLine,
-  widths,
-  heights,
-  colours,
-  oneNumber,
-  isOurs,
-  wellFormed,
-  goodHeader,
-  malformed,
-  otherPlanes,
-  pixels,
-  sizeIn,
-  badSides,
-  planesAt,
-  cutShort,
-  count,
-  lumaIn,
-  uIn,
-  vIn,
-  linesWith,
-  linesFor,
-  written,
-}
-use Rattle.y4m.specs.Calls.{found, ifDone, sizeOf, macroblocks, readChecks, ReadOutcome, lengthFor, writeChecks, WriteOutcome}
+use Rattle.y4m.specs.Text.{ascii, sameText, linesOf, wordsOf, valuesOf, decimal, isDecimal, isFull, all, isDigit, part}
+use Rattle.y4m.specs.Stream.{header, frameLine, widths, heights, colours, oneNumber, isOurs, wellFormed, goodHeader, malformed, otherPlanes, pixels, sizeIn, badSides, planesAt, cutShort, count, lumaRead, uRead, vRead, linesWith, linesFor, streamOf}
+use Rattle.y4m.specs.Calls.{found, ifDone, sizeSaid, macroblocks, readChecks, ReadOutcome, lengthFor, writeChecks, WriteOutcome}
 use Rattle.y4m.specs.Places.{digitCount}
 use Rattle.y4m.specs.declared.Found.{Found}
 use Rattle.y4m.proofs.Cut.{free, parts-cut, parts-last, free-both, free-digits}
 use Rattle.y4m.proofs.Decimal.{decimal-is}
 use Rattle.y4m.proofs.Parts.{some-part}
-use Rattle.y4m.proofs.Written.{pixels-of, lines-length}
-
--- ---- the two lines, and what follows them
-abbrev headerWith : ℕ → ℕ → List ℕ
-headerWith w h = ascii "YUV4MPEG2 W" ++ decimal w ++ ascii " H" ++ decimal h ++ ascii " C420mpeg2"
-
-module _ (w h : ℕ) (rest : List ℕ) where
-  lines-then : linesWith w h ++ rest ≡ headerWith w h ++ 10 ∷ (ascii "FRAME" ++ 10 ∷ rest)
-  unfolding linesWith
-  lines-then =
-      let p : List ℕ = ascii "YUV4MPEG2 W" ++ decimal w ++ ascii " H" ++ decimal h in
-      append-assoc p (ascii " C420mpeg2\nFRAME\n") rest ∙ sym (append-assoc p (ascii " C420mpeg2") (10 ∷ (ascii "FRAME" ++ 10 ∷ rest)))
-
-  -- its words
-  words-of : wordsOf (headerWith w h) ≡ ascii "YUV4MPEG2" ∷ (87 ∷ decimal w) ∷ (72 ∷ decimal h) ∷ ascii "C420mpeg2" ∷ []
-  words-of =
-      let x = decimal-is w .digits in
-      let y = decimal-is h .digits in
-      let f = free-digits 32 (decimal w) (omega arith) x in
-      let g = free-digits 32 (decimal h) (omega arith) y in
-      let e : headerWith w h ≡ ascii "YUV4MPEG2" ++ 32 ∷ ((87 ∷ decimal w) ++ 32 ∷ ((72 ∷ decimal h) ++ 32 ∷ ascii "C420mpeg2")) =
-      append-assoc (ascii "YUV4MPEG2 W" ++ decimal w ++ ascii " H") (decimal h) (ascii " C420mpeg2")
-      ∙ append-assoc (ascii "YUV4MPEG2 W" ++ decimal w) (ascii " H") (decimal h ++ ascii " C420mpeg2")
-      ∙ append-assoc (ascii "YUV4MPEG2 W") (decimal w) (ascii " H" ++ (decimal h ++ ascii " C420mpeg2")) in
-      let c = parts-cut 32 (72 ∷ decimal h) (ascii "C420mpeg2") g in
-      let b = parts-cut 32 (87 ∷ decimal w) ((72 ∷ decimal h) ++ 32 ∷ ascii "C420mpeg2") f in
-      let a = parts-cut 32 (ascii "YUV4MPEG2") ((87 ∷ decimal w) ++ 32 ∷ ((72 ∷ decimal h) ++ 32 ∷ ascii "C420mpeg2")) refl in
-      ap wordsOf e
-      ∙ a
-      ∙ ap (λ (ps : List (List ℕ)). ascii "YUV4MPEG2" ∷ ps) (b ∙ ap (λ (ps : List (List ℕ)). (87 ∷ decimal w) ∷ ps) c)
-
-  -- what its tags say
-  widths-of : widths (headerWith w h) ≡ decimal w ∷ []
-  widths-of = ap (λ (ws : List (List ℕ)). valuesOf 87 (drop 1 ws)) words-of
-
-  heights-of : heights (headerWith w h) ≡ decimal h ∷ []
-  heights-of = ap (λ (ws : List (List ℕ)). valuesOf 72 (drop 1 ws)) words-of
-
-  colours-of : colours (headerWith w h) ≡ ascii "420mpeg2" ∷ []
-  colours-of = ap (λ (ws : List (List ℕ)). valuesOf 67 (drop 1 ws)) words-of
-
-  decimal-ok : (n : ℕ) → isDecimal (decimal n) ≡ true
-  decimal-ok n = go (decimal n) (decimal-is n .some) (decimal-is n .digits)
-    where
-      go : (ds : List ℕ) → 0 < length ds → all isDigit ds ≡ true → isDecimal ds ≡ true
-      go [] l e = absurd (omega arith)
-      go (d ∷ ds) l e = e
-
-  good : goodHeader (headerWith w h) ≡ true
-  good =
-      let a : wellFormed (ascii "YUV4MPEG2") (headerWith w h) ≡ true =
-      ap (λ (ws : List (List ℕ)). same (part 0 ws) (ascii "YUV4MPEG2") && all isFull ws) words-of in
-      let b : oneNumber (widths (headerWith w h)) ≡ true = ap oneNumber widths-of ∙ decimal-ok w in
-      let c : oneNumber (heights (headerWith w h)) ≡ true = ap oneNumber heights-of ∙ decimal-ok h in
-      let d : leb (length (colours (headerWith w h))) 1 ≡ true = ap (λ (vs : List (List ℕ)). leb (length vs) 1) colours-of in
-      four-true a b c d
-    where
-      four-true : {a b c d : Bool} → a ≡ true → b ≡ true → c ≡ true → d ≡ true → (a && b && c && d) ≡ true
-      four-true e f g i = rw (e, f, g, i)
-
-  ours : otherPlanes (headerWith w h) ≡ false
-  unfolding otherPlanes
-  ours = ap (λ (vs : List (List ℕ)). not (all isOurs vs)) colours-of
-
-  -- the lines of the stream
-  lines-of : linesOf (linesWith w h ++ rest) ≡ headerWith w h ∷ ascii "FRAME" ∷ linesOf rest
-  lines-of =
-      let f = free-digits 10 (decimal w) (omega arith) (decimal-is w .digits) in
-      let g = free-digits 10 (decimal h) (omega arith) (decimal-is h .digits) in
-      let a = free-both 10 (ascii "YUV4MPEG2 W") (decimal w) refl f in
-      let b = free-both 10 (ascii "YUV4MPEG2 W" ++ decimal w) (ascii " H") a refl in
-      let c = free-both 10 (ascii "YUV4MPEG2 W" ++ decimal w ++ ascii " H") (decimal h) b g in
-      let d = free-both 10 (ascii "YUV4MPEG2 W" ++ decimal w ++ ascii " H" ++ decimal h) (ascii " C420mpeg2") c refl in
-      ap linesOf lines-then
-      ∙ parts-cut 10 (headerWith w h) (ascii "FRAME" ++ 10 ∷ rest) d
-      ∙ ap (λ (ps : List (List ℕ)). headerWith w h ∷ ps) (parts-cut 10 (ascii "FRAME") rest refl)
+use Rattle.y4m.proofs.Written.{pixels-of, two-lines-length}
+use Rattle.y4m.proofs.WrittenLines.{headerWith, lines-then, widths-of, heights-of, good, ours, lines-of}
 
 -- ---- a picture that is written, and anything behind it
 module _ (size : Size) (luma u v rest : List ℕ) (one : badSize size ≡ false) (fit : PlanesFit (count size) (length luma) (length u) (length v)) where
@@ -129,7 +31,7 @@ module _ (size : Size) (luma u v rest : List ℕ) (one : badSize size ≡ false)
   tail = luma ++ (u ++ (v ++ rest))
 
   abbrev stream : List ℕ
-  stream = written size luma u v ++ rest
+  stream = streamOf size luma u v ++ rest
 
   stream-is : stream ≡ linesFor size ++ tail
   stream-is =
@@ -161,7 +63,7 @@ module _ (size : Size) (luma u v rest : List ℕ) (one : badSize size ≡ false)
   no-16 = ap otherPlanes header-is ∙ ours (16 * size .w) (16 * size .h) tail
 
   -- the size, and 17
-  pub size-is : sizeOf stream ≡ size
+  pub size-is : sizeSaid stream ≡ size
   unfolding sizeIn
   size-is =
       let a = ap pixels (widths-of (16 * size .w) (16 * size .h) tail) ∙ decimal-is (16 * size .w) .value in
@@ -217,17 +119,17 @@ module _ (size : Size) (luma u v rest : List ℕ) (one : badSize size ≡ false)
       (λ i. ltb (length stream) (begin i + 384 * counted i)) ∙ le-ltb (length stream) (length (linesFor size) + 384 * count size) (omega arith)
 
   -- the planes
-  pub luma-is : lumaIn (macroblocks stream) stream ≡ luma
+  pub luma-is : lumaRead (macroblocks stream) stream ≡ luma
   luma-is =
       (λ i. take (256 * counted i) (behind i)) ∙ take-at luma (u ++ (v ++ rest)) (256 * count size) (fit .luma-is)
 
-  pub u-is : uIn (macroblocks stream) stream ≡ u
+  pub u-is : uRead (macroblocks stream) stream ≡ u
   u-is =
       ap (λ (n : ℕ). take (64 * n) (drop (planesAt stream + 256 * n) stream)) counted
       ∙ ap (take (64 * count size)) (there (256 * count size) ∙ drop-at luma (u ++ (v ++ rest)) (256 * count size) (fit .luma-is))
       ∙ take-at u (v ++ rest) (64 * count size) (fit .u-is)
 
-  pub v-is : vIn (macroblocks stream) stream ≡ v
+  pub v-is : vRead (macroblocks stream) stream ≡ v
   v-is =
       let l = length-append luma u in
       let a : luma ++ (u ++ (v ++ rest)) ≡ (luma ++ u) ++ (v ++ rest) = sym (append-assoc luma u (v ++ rest)) in
@@ -256,23 +158,23 @@ read-back size luma u v s₀ s₁ rest luma₀ u₀ v₀ luma₁ u₁ v₁ {r} w
     let cs = writeChecks size (length luma) (length u) (length v) (length s₀) in
     let one : badSize size ≡ false = passes 1 cs tt (sym (w .answer)) in
     let fit = planes-fit (count size) (length luma) (length u) (length v) (passes 3 cs tt (sym (w .answer))) in
-    let s : List ℕ = written size luma u v ++ rest in
+    let s : List ℕ = streamOf size luma u v ++ rest in
     let o : ReadOutcome s luma₀ u₀ v₀ r luma₁ u₁ v₁ = subst (λ (t : List ℕ). ReadOutcome (t ++ rest) luma₀ u₀ v₀ r luma₁ u₁ v₁) (w .stream) h in
     let z = not-refused size luma u v rest one fit luma₀ u₀ v₀ a b c in (
       o .answer ∙ (λ i. found (z i) (size-is size luma u v rest one fit i)),
-      o .luma ∙ ap (λ (n : ℕ). ifDone n (lumaIn (macroblocks s) s) luma₀) z ∙ luma-is size luma u v rest one fit,
-      o .u ∙ ap (λ (n : ℕ). ifDone n (uIn (macroblocks s) s) u₀) z ∙ u-is size luma u v rest one fit,
-      o .v ∙ ap (λ (n : ℕ). ifDone n (vIn (macroblocks s) s) v₀) z ∙ v-is size luma u v rest one fit,
+      o .luma ∙ ap (λ (n : ℕ). ifDone n (lumaRead (macroblocks s) s) luma₀) z ∙ luma-is size luma u v rest one fit,
+      o .u ∙ ap (λ (n : ℕ). ifDone n (uRead (macroblocks s) s) u₀) z ∙ u-is size luma u v rest one fit,
+      o .v ∙ ap (λ (n : ℕ). ifDone n (vRead (macroblocks s) s) v₀) z ∙ v-is size luma u v rest one fit,
     )
 
 -- the length of what is written: the lines, of which the sides have two to four digits, and the planes
 pub written-long : (size : Size) (luma u v : List ℕ) → badSize size ≡ false → PlanesFit (count size) (length luma) (length u) (length v)
-    → (length (written size luma u v) ≡ lengthFor size)
+    → (length (streamOf size luma u v) ≡ lengthFor size)
     × (lengthFor size ≡ 30 + digitCount (16 * size .w) + digitCount (16 * size .h) + 384 * count size)
 written-long size luma u v one fit =
     let a = length-append (linesFor size ++ luma ++ u) v in
     let b = length-append (linesFor size ++ luma) u in
     let c = length-append (linesFor size) luma in
     let p = pixels-of size one in
-    let l = lines-length (16 * size .w) (16 * size .h) (p .0) (p .1) in
+    let l = two-lines-length (16 * size .w) (16 * size .h) (p .0) (p .1) in
     (omega arith, omega arith)

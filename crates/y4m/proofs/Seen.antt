@@ -14,23 +14,9 @@ use Rattle.sizes.specs.Sizes.{badSize}
 use Rattle.sizes.specs.declared.Size.{Size}
 use Rattle.sizes.proofs.Sized.{sized}
 use Rattle.y4m.specs.Text.{ascii, linesOf}
-use Rattle.y4m.specs.Stream.{
-  header,
-  frameLine,
-  goodHeader,
-  wellFormed,
-  malformed,
-  otherPlanes,
-  badSides,
-  widths,
-  heights,
-  pixels,
-  sizeIn,
-  planesAt,
-  cutShort,
-}
-use Rattle.y4m.specs.Calls.{macroblocks, sizeOf, streamChecks}
-use Rattle.y4m.specs.Places.{capped, lineChecks, LinesIn, Within, SeenIn}
+use Rattle.y4m.specs.Stream.{header, frameLine, goodHeader, wellFormed, malformed, otherPlanes, badSides, widths, heights, pixels, sizeIn, planesAt, cutShort}
+use Rattle.y4m.specs.Calls.{macroblocks, sizeSaid, streamChecks}
+use Rattle.y4m.specs.Places.{capped, lineChecks, LinesIn, GoodSize, SeenIn}
 use Rattle.y4m.proofs.Sides.{sides-true}
 
 -- ---- a size that is not refused
@@ -39,7 +25,7 @@ module _ (l : List ℕ) (e : badSides l ≡ false) where
   unfolding badSides
   no-bad-size = or-false (not (eqb (pixels (widths l) % 16) 0) || not (eqb (pixels (heights l) % 16) 0)) (badSize (sizeIn l)) e .1
 
-  pub within : Within (sizeIn l)
+  pub within : GoodSize (sizeIn l)
   within = let s = sized (sizeIn l) no-bad-size in record { w-most = s .both .w-most; h-most = s .both .h-most; most = s .most }
 
   pub size-uncut : {w h : ℕ} → w ≡ capped (pixels (widths l)) → h ≡ capped (pixels (heights l)) → record { w = w / 16; h = h / 16 } ≡ sizeIn l
@@ -101,7 +87,7 @@ module _ (s : List ℕ) {a b : ℕ} (g : LinesIn s a b) where
 
     cut-is : {size : Size} → size ≡ sizeIn line → cutShort (macroblocks s) s ≡ ltb (length s) (b + 1 + 384 * (size .w * size .h))
     cut-is {size} e =
-        let p : sizeOf s ≡ size = sym (e ∙ ap sizeIn (g .first k)) in
+        let p : sizeSaid s ≡ size = sym (e ∙ ap sizeIn (g .first k)) in
         let q : planesAt s ≡ b + 1 = sym (g .behind k) in
         λ i. ltb (length s) (q i + 384 * (p i .w * p i .h))
 
@@ -114,7 +100,7 @@ module _ (s : List ℕ) {a b : ℕ} (g : LinesIn s a b) where
           let t : cutShort (macroblocks s) s ≡ true = cut-is f ∙ lt-ltb (length s) (b + 1 + 384 * (size .w * size .h)) (omega arith) in
           turned-away s n (d ∙ both-passed (stop 18 _ t)) (λ h. omega arith)
 
-      pub all-there : Within size → 384 * (size .w * size .h) ≤ length s - (b + 1) → SeenIn s m size (b + 1)
+      pub all-there : GoodSize size → 384 * (size .w * size .h) ≤ length s - (b + 1) → SeenIn s m size (b + 1)
       all-there w h =
           let t : cutShort (macroblocks s) s ≡ false = cut-is f ∙ le-ltb (length s) (b + 1 + 384 * (size .w * size .h)) (omega arith) in
           record {

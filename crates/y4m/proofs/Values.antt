@@ -70,9 +70,9 @@ module _ (l : List ℕ) (i : ℕ) (k : i < length l) where
   pub digit-here : isDigit (getD l i 0) ≡ true → all isDigit (drop i l) ≡ all isDigit (drop (i + 1) l)
   digit-here e = digits-turn ∙ rw e
 
-pub decimal-is : (l : List ℕ) → all isDigit l ≡ true → not (eqb (length l) 0) ≡ isDecimal l
-decimal-is [] e = refl
-decimal-is (x ∷ xs) e = let k = ne-eqb (suc (length xs)) 0 (λ h. omega arith) in rw k (sym e)
+pub decimal-test : (l : List ℕ) → all isDigit l ≡ true → not (eqb (length l) 0) ≡ isDecimal l
+decimal-test [] e = refl
+decimal-test (x ∷ xs) e = let k = ne-eqb (suc (length xs)) 0 (λ h. omega arith) in rw k (sym e)
 
 pub digits-end : (l : List ℕ) (i : ℕ) → length l ≤ i → all isDigit (drop i l) ≡ true
 digits-end l i h = ap (all isDigit) (drop-of-length-le l h)

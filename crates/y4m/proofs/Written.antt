@@ -20,9 +20,9 @@ pixels-of size e =
     (record { least = omega arith; most = omega arith }, record { least = omega arith; most = omega arith })
 
 -- the five pieces of the two lines
-pub lines-length : (w h : ℕ) → Pixels w → Pixels h → length (linesWith w h) ≡ 30 + digitCount w + digitCount h
+pub two-lines-length : (w h : ℕ) → Pixels w → Pixels h → length (linesWith w h) ≡ 30 + digitCount w + digitCount h
 unfolding linesWith
-lines-length w h p q =
+two-lines-length w h p q =
     let e = decimal-part w (p .least) (p .most) .1 in
     let f = decimal-part h (q .least) (q .most) .1 in
     simp length-append (omega arith)

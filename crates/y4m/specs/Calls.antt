@@ -8,15 +8,15 @@ use lib.ListN.{length}
 use Rattle.laws.specs.Refusal.{refusal}
 use Rattle.sizes.specs.Sizes.{badSize, badPlanes}
 use Rattle.sizes.specs.declared.Size.{Size}
-use Rattle.y4m.specs.Stream.{header, malformed, otherPlanes, badSides, cutShort, sizeIn, count, lumaIn, uIn, vIn, linesFor, written}
+use Rattle.y4m.specs.Stream.{header, malformed, otherPlanes, badSides, cutShort, sizeIn, count, lumaRead, uRead, vRead, linesFor, streamOf}
 use Rattle.y4m.specs.declared.Found.{Found}
 
 -- the size of the first picture, as its header says it, and its number of macroblocks
-abbrev pub sizeOf : List ℕ → Size
-sizeOf s = sizeIn (header s)
+abbrev pub sizeSaid : List ℕ → Size
+sizeSaid s = sizeIn (header s)
 
 abbrev pub macroblocks : List ℕ → ℕ
-macroblocks s = count (sizeOf s)
+macroblocks s = count (sizeSaid s)
 
 -- a number, and with 0 a size
 abbrev pub found : ℕ → Size → Found
@@ -32,17 +32,17 @@ streamChecks s =
     (15, malformed s) ∷ (16, otherPlanes (header s)) ∷ (17, badSides (header s)) ∷ (18, cutShort (macroblocks s) s) ∷ []
 
 abbrev pub LookOutcome : List ℕ → Found → Type 0
-LookOutcome s r = r ≡ found (refusal (streamChecks s)) (sizeOf s)
+LookOutcome s r = r ≡ found (refusal (streamChecks s)) (sizeSaid s)
 
 -- ---- its planes
 abbrev pub readChecks : List ℕ → ℕ → ℕ → ℕ → List (ℕ × Bool)
 readChecks s luma u v = streamChecks s ++ ((3, badPlanes (macroblocks s) luma u v) ∷ [])
 
 pub record ReadOutcomeOf (n : ℕ) (s luma₀ u₀ v₀ : List ℕ) (r : Found) (luma₁ u₁ v₁ : List ℕ) : Type 0 where
-  pub answer : r ≡ found n (sizeOf s)
-  pub luma : luma₁ ≡ ifDone n (lumaIn (macroblocks s) s) luma₀
-  pub u : u₁ ≡ ifDone n (uIn (macroblocks s) s) u₀
-  pub v : v₁ ≡ ifDone n (vIn (macroblocks s) s) v₀
+  pub answer : r ≡ found n (sizeSaid s)
+  pub luma : luma₁ ≡ ifDone n (lumaRead (macroblocks s) s) luma₀
+  pub u : u₁ ≡ ifDone n (uRead (macroblocks s) s) u₀
+  pub v : v₁ ≡ ifDone n (vRead (macroblocks s) s) v₀
 
 abbrev pub ReadOutcome : List ℕ → List ℕ → List ℕ → List ℕ → Found → List ℕ → List ℕ → List ℕ → Type 0
 ReadOutcome s luma u v = ReadOutcomeOf (refusal (readChecks s (length luma) (length u) (length v))) s luma u v
@@ -64,4 +64,4 @@ writeAnswer size luma u v stream = refusal (writeChecks size (length luma) (leng
 
 pub record WriteOutcome (size : Size) (luma u v s₀ : List ℕ) (r : ℕ) (s₁ : List ℕ) : Type 0 where
   pub answer : r ≡ writeAnswer size luma u v s₀
-  pub stream : s₁ ≡ ifDone r (written size luma u v) s₀
+  pub stream : s₁ ≡ ifDone r (streamOf size luma u v) s₀

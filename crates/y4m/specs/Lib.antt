@@ -1,3 +1,4 @@
+
 pub mod Text
 pub mod Stream
 pub mod Calls

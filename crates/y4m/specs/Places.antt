@@ -10,7 +10,7 @@ use Rattle.laws.specs.Refusal.{refusal}
 use Rattle.sizes.specs.declared.Size.{Size}
 use Rattle.y4m.specs.Text.{ascii, part, linesOf, wordsOf}
 use Rattle.y4m.specs.Stream.{header, frameLine, goodHeader, wellFormed, otherPlanes, badSides, planesAt}
-use Rattle.y4m.specs.Calls.{sizeOf, streamChecks}
+use Rattle.y4m.specs.Calls.{sizeSaid, streamChecks}
 
 -- the values of the tags t in a text behind the byte p
 abbrev pub valuesBehind : ℕ → ℕ → List ℕ → List (List ℕ)
@@ -58,7 +58,7 @@ pub record LinesIn (s : List ℕ) (a b : ℕ) : Type 0 where
   pub behind : b < length s → b + 1 ≡ planesAt s
 
 -- a size that check 1 does not refuse
-pub record Within (size : Size) : Type 0 where
+pub record GoodSize (size : Size) : Type 0 where
   pub w-most : size .w ≤ 256
   pub h-most : size .h ≤ 256
   pub most : size .w * size .h ≤ 36864
@@ -66,8 +66,8 @@ pub record Within (size : Size) : Type 0 where
 -- the answer of checks 15 to 18 and, with 0, what is there
 pub record SeenIn (s : List ℕ) (n : ℕ) (size : Size) (at : ℕ) : Type 0 where
   pub answer : n ≡ refusal (streamChecks s)
-  pub sized : n ≡ 0 → size ≡ sizeOf s
-  pub within : n ≡ 0 → Within size
+  pub sized : n ≡ 0 → size ≡ sizeSaid s
+  pub within : n ≡ 0 → GoodSize size
   pub place : n ≡ 0 → at ≡ planesAt s
   pub long : n ≡ 0 → at + 384 * (size .w * size .h) ≤ length s
 

@@ -7,7 +7,7 @@ use lib.Dec.{eqb, ltb, leb}
 use lib.ListN.{length, take, drop}
 use Rattle.sizes.specs.Sizes.{badSize}
 use Rattle.sizes.specs.declared.Size.{Size}
-use Rattle.y4m.specs.Text.{ascii, same, isFull, all, linesOf, wordsOf, part, isDecimal, valueOf, decimal, tagsOf, valuesOf}
+use Rattle.y4m.specs.Text.{ascii, sameText, isFull, all, linesOf, wordsOf, part, isDecimal, valueOf, decimal, tagsOf, valuesOf, letter}
 
 abbrev pub header : List ℕ → List ℕ
 header s = part 0 (linesOf s)
@@ -18,17 +18,17 @@ frameLine s = part 1 (linesOf s)
 -- ---- 15: a line is malformed, or has no newline: each ends before another line, which may be empty
 -- the first word is w, and no word is empty: spaces are single, and none ends the line
 abbrev pub wellFormed : List ℕ → List ℕ → Bool
-wellFormed w l = same (part 0 (wordsOf l)) w && all isFull (wordsOf l)
+wellFormed w l = sameText (part 0 (wordsOf l)) w && all isFull (wordsOf l)
 
 -- the values of the tags W, H and C of a header line
 abbrev pub widths : List ℕ → List (List ℕ)
-widths l = valuesOf 87 (tagsOf l)
+widths l = valuesOf (letter "W") (tagsOf l)
 
 abbrev pub heights : List ℕ → List (List ℕ)
-heights l = valuesOf 72 (tagsOf l)
+heights l = valuesOf (letter "H") (tagsOf l)
 
 abbrev pub colours : List ℕ → List (List ℕ)
-colours l = valuesOf 67 (tagsOf l)
+colours l = valuesOf (letter "C") (tagsOf l)
 
 -- given once, in decimal
 abbrev pub oneNumber : List (List ℕ) → Bool
@@ -43,7 +43,7 @@ malformed s = not (leb 3 (length (linesOf s)) && goodHeader (header s) && wellFo
 
 -- ---- 16: a C tag names other planes than ours
 abbrev pub isOurs : List ℕ → Bool
-isOurs c = same c (ascii "420") || same c (ascii "420jpeg") || same c (ascii "420mpeg2") || same c (ascii "420paldv")
+isOurs c = sameText c (ascii "420") || sameText c (ascii "420jpeg") || sameText c (ascii "420mpeg2") || sameText c (ascii "420paldv")
 
 unfoldable pub otherPlanes : List ℕ → Bool
 otherPlanes l = not (all isOurs (colours l))
@@ -69,14 +69,14 @@ abbrev pub cutShort : ℕ → List ℕ → Bool
 cutShort n s = ltb (length s) (planesAt s + 384 * n)
 
 -- ---- the planes, one after the other
-abbrev pub lumaIn : ℕ → List ℕ → List ℕ
-lumaIn n s = take (256 * n) (drop (planesAt s) s)
+abbrev pub lumaRead : ℕ → List ℕ → List ℕ
+lumaRead n s = take (256 * n) (drop (planesAt s) s)
 
-abbrev pub uIn : ℕ → List ℕ → List ℕ
-uIn n s = take (64 * n) (drop (planesAt s + 256 * n) s)
+abbrev pub uRead : ℕ → List ℕ → List ℕ
+uRead n s = take (64 * n) (drop (planesAt s + 256 * n) s)
 
-abbrev pub vIn : ℕ → List ℕ → List ℕ
-vIn n s = take (64 * n) (drop (planesAt s + 320 * n) s)
+abbrev pub vRead : ℕ → List ℕ → List ℕ
+vRead n s = take (64 * n) (drop (planesAt s + 320 * n) s)
 
 -- ---- a stream that is written
 -- its two lines, for a width and a height in pixels
@@ -86,5 +86,5 @@ linesWith w h = ascii "YUV4MPEG2 W" ++ decimal w ++ ascii " H" ++ decimal h ++ a
 abbrev pub linesFor : Size → List ℕ
 linesFor size = linesWith (16 * size .w) (16 * size .h)
 
-abbrev pub written : Size → List ℕ → List ℕ → List ℕ → List ℕ
-written size luma u v = linesFor size ++ luma ++ u ++ v
+abbrev pub streamOf : Size → List ℕ → List ℕ → List ℕ → List ℕ
+streamOf size luma u v = linesFor size ++ luma ++ u ++ v

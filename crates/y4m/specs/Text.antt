@@ -12,18 +12,21 @@ abbrev pub ascii : String → List ℕ
 ascii empty = []
 ascii (c then s) = code c ∷ ascii s
 
+abbrev pub letter : String → ℕ
+letter t = getD (ascii t) 0 0
+
 abbrev pub newline : ℕ
-newline = 10
+newline = letter "\n"
 
 abbrev pub space : ℕ
-space = 32
+space = letter " "
 
 -- two texts are equal
-abbrev pub same : List ℕ → List ℕ → Bool
-same [] [] = true
-same [] (y ∷ ys) = false
-same (x ∷ xs) [] = false
-same (x ∷ xs) (y ∷ ys) = eqb x y && same xs ys
+abbrev pub sameText : List ℕ → List ℕ → Bool
+sameText [] [] = true
+sameText [] (y ∷ ys) = false
+sameText (x ∷ xs) [] = false
+sameText (x ∷ xs) (y ∷ ys) = eqb x y && sameText xs ys
 
 abbrev pub isFull : List ℕ → Bool
 isFull [] = false
@@ -53,7 +56,7 @@ wordsOf l = parts space l
 abbrev pub part : ℕ → List (List ℕ) → List ℕ
 part i ps = getD ps i []
 
--- ---- numbers: digits alone, one at least
+-- ---- numbers: digits alone, one at least. 0 to 9 are 48 to 57
 abbrev pub isDigit : ℕ → Bool
 isDigit x = leb 48 x && leb x 57
 

@@ -1,5 +1,6 @@
 // Pictures in the format YUV4MPEG2 (.y4m): the first picture of a stream read into planes, and a stream of
 // one picture written.
+mod copy;
 mod header;
 pub mod reader;
 mod text;

@@ -6,14 +6,14 @@ ghost use lib.ListN.{length, take, drop};
 ghost use Rattle.sizes.specs.declared.Size.{Size};
 ghost use Rattle.y4m.specs.Stream.{sizeIn, badSides};
 ghost use Rattle.y4m.specs.Calls.{found, LookOutcome, ReadOutcome};
-ghost use Rattle.y4m.specs.Places.{Within, LinesIn, SeenIn};
+ghost use Rattle.y4m.specs.Places.{GoodSize, LinesIn, SeenIn};
 use crate::Found;
 use crate::header::refuse_lines;
 use crate::header::side;
 use crate::text::end_of;
-use bytes::copy;
 use sizes::Size;
 use sizes::bad_planes;
+use crate::copy::copy_all;
 
 // Where the first two lines of a stream end; the second ends with the stream where it has no newline.
 struct Ends {
@@ -38,7 +38,7 @@ fn ends_of(stream: &[u8]) -> Ends
 // The size in macroblocks.
 fn size_in(line: &[u8]) -> Size
     requires { ⌜ badSides (now line) ≡ false ⌝ }
-    ensures { λ r. ⌜ Within r ⌝ }
+    ensures { λ r. ⌜ GoodSize r ⌝ }
     ensures { λ r. ⌜ r ≡ sizeIn (now (line .entry)) ⌝ }
 {
     Size {
@@ -95,7 +95,7 @@ fn answered(number: u32) -> Found
 }
 
 fn done(size: Size) -> Found
-    requires { ⌜ Within size ⌝ }
+    requires { ⌜ GoodSize size ⌝ }
     ensures { λ r. ⌜ r ≡ found 0 size ⌝ }
 {
     Found {
@@ -122,7 +122,7 @@ fn place(stream: &[u8], at: usize, plane: &mut [u8])
     ensures { λ _. ⌜ now (plane .exit) ≡ take (length (now (plane .entry))) (drop at (now (stream .entry))) ⌝ }
 {
     let end = at + plane.len();
-    copy(&stream[at..end], plane);
+    copy_all(&stream[at..end], plane);
 }
 
 // The planes of n macroblocks, from `at` on.

@@ -3,8 +3,7 @@ ghost use mathlib.Core.Path.{_≡_};
 ghost use mathlib.Core.Bool.{not};
 ghost use Prim.Native.Nat.{_+_, _*_, _-_, _<_, _≤_};
 ghost use lib.ListN.{length, drop};
-ghost use Rattle.y4m.specs.Text.{parts, part, wordsOf, tagsOf, valuesOf, same, isFull, all, isDigit, isDecimal, valueOf};
-ghost use Rattle.y4m.specs.Stream.{wellFormed};
+ghost use Rattle.y4m.specs.Text.{parts, part, wordsOf, tagsOf, valuesOf, isFull, all, isDigit, isDecimal, valueOf};
 ghost use Rattle.y4m.specs.Places.{NextTag, TaggedBy, capped};
 use bytes::scan::find;
 

@@ -9,10 +9,10 @@ ghost use Rattle.y4m.specs.Text.{decimal};
 ghost use Rattle.y4m.specs.Stream.{linesWith};
 ghost use Rattle.y4m.specs.Calls.{LengthOutcome, WriteOutcome, lengthFor};
 ghost use Rattle.y4m.specs.Places.{Put, Pixels, digitCount, digitOf, fourDigits};
-use bytes::copy;
 use sizes::Size;
 use sizes::bad_planes;
 use sizes::bad_size;
+use crate::copy::copy_all;
 
 // How many digits a side in pixels has: from 16 to 4096 two to four.
 fn digits(n: usize) -> usize
@@ -51,7 +51,7 @@ fn put(stream: &mut [u8], at: usize, text: &[u8]) -> usize
     requires { ⌜ at + length (now text) ≤ length (now stream) ⌝ }
     ensures { λ r. ⌜ Put (now (stream .entry)) at (now (text .entry)) r (now (stream .exit)) ⌝ }
 {
-    copy(text, &mut stream[at..]);
+    copy_all(text, &mut stream[at..]);
     at + text.len()
 }
 

@@ -7,7 +7,7 @@ use mathlib.Core.List.{List}
 use native.Mathlib.Nat.{zero-add}
 use lib.ListN.{length, take}
 use lib.Seq.{length-take-le}
-use Rattle.y4m.specs.Text.{part, wordsOf, same, isFull, all}
+use Rattle.y4m.specs.Text.{part, wordsOf, sameText, isFull, all}
 use Rattle.y4m.proofs.Parts.{first-taken}
 use Rattle.y4m.proofs.Same.{by-same, not-not}
 use Rattle.y4m.proofs.header.well_formed.Statement.{statement}
@@ -25,7 +25,7 @@ returns c =
     let l = q .before .before .before .args .line .now in
     let w = q .before .before .before .args .first .now in
     let a = by-same (c .before .same .result) (take (q .end-of .result) l) w (c .before .same .ensures)
-    ∙ ap (λ (x : List ℕ). same x w) (first-word l (q .end-of .result) (q .end-of .ensures .0)) in
+    ∙ ap (λ (x : List ℕ). sameText x w) (first-word l (q .end-of .result) (q .end-of .ensures .0)) in
     let b = ap not (c .has-gap .ensures) ∙ not-not (all isFull (wordsOf l)) in
     rw (a, b)
 

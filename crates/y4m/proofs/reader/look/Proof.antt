@@ -3,7 +3,7 @@ use borrow.Author.Needs.{needs}
 use Prim.Native.Nat.{ℕ}
 use mathlib.Core.Path.{_≡_, sym, ap, _∙_}
 use Rattle.sizes.specs.declared.Size.{Size}
-use Rattle.y4m.specs.Calls.{found, sizeOf}
+use Rattle.y4m.specs.Calls.{found, sizeSaid}
 use Rattle.y4m.proofs.reader.look.Statement.{statement}
 use Rattle.y4m.proofs.reader.look.Tie as tie
 
@@ -11,7 +11,7 @@ returns : tie.Need-returns
 returns c =
     let q = c .before .before .before in
     let s = q .before .before .args .stream .now in
-    c .answered .ensures (sizeOf s) ∙ ap (λ (n : ℕ). found n (sizeOf s)) (q .see .ensures .answer)
+    c .answered .ensures (sizeSaid s) ∙ ap (λ (n : ℕ). found n (sizeSaid s)) (q .see .ensures .answer)
 
 returns-2 : tie.Need-returns-2
 returns-2 c =
@@ -20,7 +20,7 @@ returns-2 c =
     let z = c .before .if1 .left in
     c .done .ensures
     ∙ ap (found 0) (q .see .ensures .sized z)
-    ∙ ap (λ (n : ℕ). found n (sizeOf s)) (sym z ∙ q .see .ensures .answer)
+    ∙ ap (λ (n : ℕ). found n (sizeSaid s)) (sym z ∙ q .see .ensures .answer)
 
 pub look-spec : {M : Type 1} → statement M
 look-spec =

@@ -8,7 +8,7 @@ use Rattle.y4m.proofs.reader.place.Tie as tie
 returns : tie.Need-returns
 returns c =
     let q = c .before .before .before .before .before .before .before in
-    c .before .before .copy .ensures .1 ∙ copied-part (q .args .stream .now) (q .args .plane .now) (q .args .at) (q .pre)
+    c .before .before .copy-all .ensures ∙ copied-part (q .args .stream .now) (q .args .plane .now) (q .args .at) (q .pre)
 
 pub place-spec : {M : Type 1} → statement M
 place-spec =

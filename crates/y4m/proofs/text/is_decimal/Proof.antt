@@ -7,7 +7,7 @@ use lib.ListN.{length, drop}
 use native.Mathlib.Omega.{arith}
 use Rattle.laws.proofs.Bools.{and-false}
 use Rattle.y4m.specs.Text.{isFull, all, isDigit}
-use Rattle.y4m.proofs.Values.{digit-here, digit-not, digits-end, decimal-is}
+use Rattle.y4m.proofs.Values.{digit-here, digit-not, digits-end, decimal-test}
 use Rattle.y4m.proofs.text.is_decimal.Statement.{statement}
 use Rattle.y4m.proofs.text.is_decimal.Tie as tie
 
@@ -32,7 +32,7 @@ loop-again c =
 returns-2 : tie.Need-returns-2 Inv μ
 returns-2 c =
     let s = c .before .before .before .args .s .now in
-    decimal-is s (c .before .loop .inv .2 ∙ digits-end s (c .before .loop .i) (search needs))
+    decimal-test s (c .before .loop .inv .2 ∙ digits-end s (c .before .loop .i) (search needs))
 
 pub is-decimal-spec : {M : Type 1} → statement M
 is-decimal-spec =

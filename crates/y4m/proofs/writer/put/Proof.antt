@@ -1,4 +1,4 @@
--- `put`: the kit's copy, over the stream from `at` on. Assumes nothing.
+-- `put`: copied over the stream from `at` on. Assumes nothing.
 use borrow.Author.Needs.{needs}
 use mathlib.Core.Path.{refl}
 use Rattle.y4m.proofs.Copied.{put-is}
@@ -11,7 +11,7 @@ returns c =
     let q = t .before .before .before .before in
     record {
       end = refl;
-      stream = put-is (q .args .stream .now) (q .args .text .now) (t .copy .last .1 .0) (q .args .at) (q .pre) (t .copy .ensures .1);
+      stream = put-is (q .args .stream .now) (q .args .text .now) (t .copy-all .last .1 .0) (q .args .at) (q .pre) (t .copy-all .ensures);
     }
 
 pub put-spec : {M : Type 1} → statement M

@@ -4,26 +4,26 @@ use mathlib.Core.Path.{_≡_}
 use native.Mathlib.Omega.{arith}
 use lib.ListN.{length}
 use Rattle.y4m.specs.Stream.{linesWith}
-use Rattle.y4m.proofs.Written.{lines-length, planes-put}
+use Rattle.y4m.proofs.Written.{two-lines-length, planes-put}
 use Rattle.y4m.proofs.writer.put_all.Statement.{statement}
 use Rattle.y4m.proofs.writer.put_all.Tie as tie
 
 put-requires : tie.Need-put-requires
 put-requires c κs =
     let p = c .before .before .before .before .before .before .before .before .before in
-    let l = lines-length (p .args .w) (p .args .h) (p .pre .0) (p .pre .1) in
+    let l = two-lines-length (p .args .w) (p .args .h) (p .pre .0) (p .pre .1) in
     search needs
 
 put-requires-2 : tie.Need-put-requires-2
 put-requires-2 c κs =
     let p = c .before .before .before .before .before .before .before .before .before .before .before .before .before in
-    let l = lines-length (p .args .w) (p .args .h) (p .pre .0) (p .pre .1) in
+    let l = two-lines-length (p .args .w) (p .args .h) (p .pre .0) (p .pre .1) in
     search needs
 
 put-requires-3 : tie.Need-put-requires-3
 put-requires-3 c κs =
     let p = c .before .before .before .before .before .before .before .before .before .before .before .before .before .before .before .before .before in
-    let l = lines-length (p .args .w) (p .args .h) (p .pre .0) (p .pre .1) in
+    let l = two-lines-length (p .args .w) (p .args .h) (p .pre .0) (p .pre .1) in
     search needs
 
 returns : tie.Need-returns
@@ -34,7 +34,7 @@ returns c =
     let t = y .before .before .before .before in
     let p = t .before .before .before .before .before .before in
     let a = p .args in
-    let l = lines-length (a .w) (a .h) (p .pre .0) (p .pre .1) in
+    let l = two-lines-length (a .w) (a .h) (p .pre .0) (p .pre .1) in
     let e = p .pre .2 in
     planes-put (a .stream .now) (linesWith (a .w) (a .h)) (a .luma .now) (a .u .now) (a .v .now) (omega arith) (t .put-lines .ensures) (y .put .ensures)
     (u .put2 .ensures)

@@ -4,7 +4,7 @@ use Prim.Native.Nat.{ℕ, _+_, _*_}
 use mathlib.Core.Path.{_≡_, sym, ap, _∙_}
 use native.Mathlib.Omega.{arith}
 use Rattle.sizes.proofs.Sized.{sized}
-use Rattle.y4m.proofs.Written.{pixels-of, lines-length}
+use Rattle.y4m.proofs.Written.{pixels-of, two-lines-length}
 use Rattle.y4m.proofs.writer.whole.Statement.{statement}
 use Rattle.y4m.proofs.writer.whole.Tie as tie
 
@@ -13,7 +13,7 @@ returns c =
     let q = c .before .before .before .before .before in
     let s = q .args .size in
     let p = pixels-of s (q .pre) in
-    let l = lines-length (16 * s .w) (16 * s .h) (p .0) (p .1) in
+    let l = two-lines-length (16 * s .w) (16 * s .h) (p .0) (p .1) in
     let w = c .before .before .before .digits .ensures .1 in
     let h = c .before .digits2 .ensures .1 in
     omega arith

@@ -10,7 +10,7 @@ use lib.ListN.{length}
 use Rattle.laws.proofs.Refusal.{stop, skip}
 use Rattle.sizes.proofs.Sized.{sized, planes-fit}
 use Rattle.y4m.specs.Calls.{lengthFor}
-use Rattle.y4m.proofs.Written.{pixels-of, lines-length}
+use Rattle.y4m.proofs.Written.{pixels-of, two-lines-length}
 use Rattle.y4m.proofs.writer.write.Statement.{statement}
 use Rattle.y4m.proofs.writer.write.Tie as tie
 
@@ -50,7 +50,7 @@ put-all-requires c κs =
     let a = q .before .before .before .before .before .before .args in
     let z = sym (q .before .bad-size .ensures) ∙ q .if1 .left in
     let p = pixels-of (a .size) z in
-    let l = lines-length (16 * a .size .w) (16 * a .size .h) (p .0) (p .1) in
+    let l = two-lines-length (16 * a .size .w) (16 * a .size .h) (p .0) (p .1) in
     let f = planes-fit _ (length (a .luma .now)) (length (a .u .now)) (length (a .v .now)) (sym (t .before .bad-planes .ensures) ∙ t .if2 .left) in
     let e : length (a .stream .now) ≡ lengthFor (a .size) = d .if3 .left ∙ d .before .whole .ensures in
     (p .0, p .1, omega arith)

@@ -1,7 +1,7 @@
 -- Laws of bytes that are copied, and of texts put at a place of a stream. Assumes nothing.
 use Prim.Native.Nat.{ℕ, _+_, _-_, _<_, _≤_}
-use mathlib.Core.Path.{_≡_, refl, sym, ap, _∙_}
-use mathlib.Core.List.{List, [], _∷_, _++_, append-nil, append-assoc}
+use mathlib.Core.Path.{_≡_, sym, ap, _∙_}
+use mathlib.Core.List.{List, _++_, append-nil, append-assoc}
 use native.Mathlib.Omega.{arith}
 use lib.ListN.{length, take, drop, length-drop, length-append, drop-of-length-le, getD, set}
 use lib.Seq.{take-length, take-all, take-at, drop-length, drop-drop, drop-append-add, length-take-le, paste, paste-suc}

@@ -1,16 +1,16 @@
 -- Laws of numbers written in decimal. Assumes nothing.
 use Prim.Native.Nat.{ℕ, zero, suc, _+_, _*_, _-_, _/_, _%_, _<_, _≤_}
 use mathlib.Core.Path.{_≡_, refl, sym, ap, _∙_}
-use mathlib.Core.Bool.{Bool, true, false, cond, _&&_}
+use mathlib.Core.Bool.{Bool, true, false}
 use mathlib.Core.List.{List, [], _∷_, _++_}
 use mathlib.Core.Logic.{⊎-elim, _⊎_, inl, inr}
 use borrow.Author.Tests.{ltb-true, ltb-false, lt-ltb, le-ltb, le-leb}
 use native.Mathlib.Omega.{arith}
-use lib.Dec.{ltb, leb}
+use lib.Dec.{ltb}
 use Rattle.laws.proofs.Bools.{and-true}
 use lib.ListN.{length, take, drop, length-append, length-drop}
 use lib.Seq.{take-all}
-use Rattle.y4m.specs.Text.{digitsIn, decimal, isDigit, isFull, isDecimal, all, valueFrom, valueOf}
+use Rattle.y4m.specs.Text.{digitsIn, decimal, isDigit, all, valueFrom, valueOf}
 use Rattle.y4m.specs.Places.{digitCount, digitOf, fourDigits}
 
 one-or-more : (n k : ℕ) → (n < k) ⊎ (k ≤ n)

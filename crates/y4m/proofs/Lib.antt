@@ -1,4 +1,3 @@
-
 pub mod Sides
 pub mod Copied
 pub mod Cut

@@ -1,7 +1,7 @@
 -- What is written is read: the same size and the same planes, whatever follows in the stream. Assumes nothing.
-use Prim.Native.Nat.{ℕ, suc, _+_, _*_, _-_, _/_, _%_, _<_, _≤_}
+use Prim.Native.Nat.{ℕ, suc, _+_, _*_, _-_, _/_, _%_}
 use mathlib.Core.Path.{_≡_, refl, sym, ap, _∙_, subst}
-use mathlib.Core.Bool.{Bool, true, false, cond, not, _&&_, _||_}
+use mathlib.Core.Bool.{Bool, true, false, not, _&&_, _||_}
 use mathlib.Core.List.{List, [], _∷_, _++_, append-assoc}
 use borrow.Author.Tests.{eq-eqb, le-leb, le-ltb}
 use native.Mathlib.Omega.{arith}
@@ -13,12 +13,11 @@ use Rattle.laws.proofs.Refusal.{passes, none-applies}
 use Rattle.sizes.specs.Sizes.{badSize, badPlanes}
 use Rattle.sizes.specs.declared.Size.{Size}
 use Rattle.sizes.proofs.Sized.{PlanesFit, planes-fit}
-use Rattle.y4m.specs.Text.{ascii, sameText, linesOf, wordsOf, valuesOf, decimal, isDecimal, isFull, all, isDigit, part}
-use Rattle.y4m.specs.Stream.{header, frameLine, widths, heights, colours, oneNumber, isOurs, wellFormed, goodHeader, malformed, otherPlanes, pixels, sizeIn, badSides, planesAt, cutShort, count, lumaRead, uRead, vRead, linesWith, linesFor, streamOf}
+use Rattle.y4m.specs.Text.{ascii, linesOf, part}
+use Rattle.y4m.specs.Stream.{header, frameLine, widths, heights, wellFormed, goodHeader, malformed, otherPlanes, pixels, sizeIn, badSides, planesAt, cutShort, count, lumaRead, uRead, vRead, linesFor, streamOf}
 use Rattle.y4m.specs.Calls.{found, ifDone, sizeSaid, macroblocks, readChecks, ReadOutcome, lengthFor, writeChecks, WriteOutcome}
 use Rattle.y4m.specs.Places.{digitCount}
 use Rattle.y4m.specs.declared.Found.{Found}
-use Rattle.y4m.proofs.Cut.{free, parts-cut, parts-last, free-both, free-digits}
 use Rattle.y4m.proofs.Decimal.{decimal-is}
 use Rattle.y4m.proofs.Parts.{some-part}
 use Rattle.y4m.proofs.Written.{pixels-of, two-lines-length}

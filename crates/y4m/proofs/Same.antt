@@ -1,12 +1,11 @@
 -- Texts compared: the kit's test of equality is `sameText`. Assumes nothing.
 use Prim.Native.Nat.{ℕ}
 use mathlib.Core.Path.{_≡_, refl, sym, ap, _∙_}
-use mathlib.Core.Bool.{Bool, true, false, not, _&&_}
+use mathlib.Core.Bool.{Bool, true, false, not}
 use mathlib.Core.List.{List, [], _∷_}
 use borrow.Author.Tests.{eq-eqb, eqb-true}
-use lib.Dec.{T, eqb}
+use lib.Dec.{eqb}
 use Rattle.laws.proofs.Bools.{and-true}
-use Rattle.laws.proofs.Equal.{same-test}
 use Rattle.y4m.specs.Text.{sameText}
 
 pub same-self : (a : List ℕ) → sameText a a ≡ true

@@ -1,16 +1,15 @@
 -- Laws behind the checks of a header line: counts of tags up to 2, sides that are cut off. Assumes nothing.
-use Prim.Native.Nat.{ℕ, zero, suc, _+_, _*_, _/_, _%_, _<_, _≤_}
+use Prim.Native.Nat.{ℕ, suc, _/_, _%_, _≤_}
 use mathlib.Core.Path.{_≡_, refl, sym, ap, _∙_}
 use mathlib.Core.Bool.{Bool, true, false, cond, not, _&&_, _||_}
 use mathlib.Core.List.{List, [], _∷_}
 use mathlib.Core.Logic.{⊎-elim}
-use borrow.Author.Tests.{eqb-true, eqb-false, ne-eqb, eq-eqb, le-ltb, lt-ltb, lt-leb, le-leb}
-use native.Mathlib.Nat.{div-add-mod', mod-lt}
+use borrow.Author.Tests.{eqb-true, eqb-false, ne-eqb, le-ltb, lt-ltb, lt-leb}
+use native.Mathlib.Nat.{div-add-mod'}
 use native.Mathlib.Omega.{arith}
 use lib.Dec.{eqb, ltb, leb}
 use lib.ListN.{length}
 use Rattle.sizes.specs.Sizes.{badSize}
-use Rattle.sizes.specs.declared.Size.{Size}
 use Rattle.y4m.specs.Text.{part, all}
 use Rattle.y4m.specs.Places.{TaggedBy, capped}
 use Rattle.y4m.proofs.Values.{capped-small, capped-large, small-or-large}

@@ -1,16 +1,15 @@
 -- Laws of tags: the words of a line found by what stands before them. Assumes nothing.
-use Prim.Native.Nat.{ℕ, zero, suc, _+_, _-_, _<_, _≤_}
+use Prim.Native.Nat.{ℕ, suc, _+_, _-_, _<_, _≤_}
 use mathlib.Core.Path.{_≡_, refl, sym, ap, _∙_}
 use mathlib.Core.Bool.{Bool, true, false, cond, not, _&&_, _||_}
 use mathlib.Core.List.{List, [], _∷_}
 use borrow.Author.Tests.{eqb-true, ne-eqb, le-ltb}
-use native.Mathlib.Nat.{le-of-suc-le-suc, not-suc-le-zero}
 use native.Mathlib.Numerals.{add-one}
 use native.Mathlib.Omega.{arith}
 use lib.Dec.{eqb}
 use lib.ListN.{length, getD, take, drop, drop-of-length-le}
 use lib.Seq.{drop-cons}
-use Rattle.y4m.specs.Text.{parts, part, onFirst, wordsOf, tagsOf, valuesOf, isFull, all}
+use Rattle.y4m.specs.Text.{part, onFirst, wordsOf, tagsOf, valuesOf, isFull, all}
 use Rattle.y4m.specs.Places.{TaggedBy, valuesBehind, valuesFrom, gapsBehind}
 use Rattle.y4m.proofs.Parts.{first-rest, first-grows, first-taken}
 

@@ -1,4 +1,3 @@
-
 pub mod Text
 pub mod Stream
 pub mod Calls

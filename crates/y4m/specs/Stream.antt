@@ -1,8 +1,8 @@
 -- A stream of YUV4MPEG2: a header line, a line FRAME, the planes of the first picture, and whatever follows:
 -- docs/RULES.md, "Streams".
 use Prim.Native.Nat.{ℕ, _+_, _*_, _/_, _%_}
-use mathlib.Core.Bool.{Bool, false, not, _&&_, _||_}
-use mathlib.Core.List.{List, [], _∷_, _++_}
+use mathlib.Core.Bool.{Bool, not, _&&_, _||_}
+use mathlib.Core.List.{List, _++_}
 use lib.Dec.{eqb, ltb, leb}
 use lib.ListN.{length, take, drop}
 use Rattle.sizes.specs.Sizes.{badSize}

@@ -1,11 +1,10 @@
 // The two lines of a stream, and the checks of them: 15, 16 and 17.
 ghost use mathlib.Core.Path.{_≡_};
-ghost use mathlib.Core.Bool.{true, not, _&&_};
-ghost use mathlib.Core.List.{[], _∷_};
+ghost use mathlib.Core.Bool.{true, not};
 ghost use lib.Dec.{leb};
 ghost use lib.ListN.{length};
 ghost use Rattle.laws.specs.Refusal.{refusal};
-ghost use Rattle.y4m.specs.Text.{ascii, tagsOf, valuesOf};
+ghost use Rattle.y4m.specs.Text.{tagsOf, valuesOf};
 ghost use Rattle.y4m.specs.Stream.{wellFormed, oneNumber, colours, goodHeader, isOurs, otherPlanes, pixels, badSides};
 ghost use Rattle.y4m.specs.Places.{capped, lineChecks};
 use crate::text::end_of;

@@ -8,12 +8,12 @@ ghost use Rattle.y4m.specs.Stream.{sizeIn, badSides};
 ghost use Rattle.y4m.specs.Calls.{found, LookOutcome, ReadOutcome};
 ghost use Rattle.y4m.specs.Places.{GoodSize, LinesIn, SeenIn};
 use crate::Found;
+use crate::copy::copy_all;
 use crate::header::refuse_lines;
 use crate::header::side;
 use crate::text::end_of;
 use sizes::Size;
 use sizes::bad_planes;
-use crate::copy::copy_all;
 
 // Where the first two lines of a stream end; the second ends with the stream where it has no newline.
 struct Ends {

@@ -9,10 +9,10 @@ ghost use Rattle.y4m.specs.Text.{decimal};
 ghost use Rattle.y4m.specs.Stream.{linesWith};
 ghost use Rattle.y4m.specs.Calls.{LengthOutcome, WriteOutcome, lengthFor};
 ghost use Rattle.y4m.specs.Places.{Put, Pixels, digitCount, digitOf, fourDigits};
+use crate::copy::copy_all;
 use sizes::Size;
 use sizes::bad_planes;
 use sizes::bad_size;
-use crate::copy::copy_all;
 
 // How many digits a side in pixels has: from 16 to 4096 two to four.
 fn digits(n: usize) -> usize

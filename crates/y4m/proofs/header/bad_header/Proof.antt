@@ -1,6 +1,5 @@
 -- `bad_header`: the parts of a good one. Assumes nothing.
 use borrow.Author.Needs.{needs}
-use mathlib.Core.Path.{_≡_}
 use Rattle.y4m.specs.Stream.{colours}
 use Rattle.y4m.proofs.Sides.{not-twice}
 use Rattle.y4m.proofs.header.bad_header.Statement.{statement}

@@ -1,6 +1,5 @@
 -- `bad_sides`: what was cut off is refused all the same. Assumes nothing.
 use borrow.Author.Needs.{needs}
-use mathlib.Core.Path.{_≡_, ap, _∙_}
 use Rattle.y4m.specs.Stream.{widths, heights, pixels, badSides, sizeIn}
 use Rattle.y4m.proofs.Sides.{sides-capped}
 use Rattle.y4m.proofs.header.bad_sides.Statement.{statement}

@@ -1,6 +1,5 @@
 -- `is_ours`: one of four words. Assumes nothing.
 use borrow.Author.Needs.{needs}
-use mathlib.Core.Path.{_≡_}
 use Rattle.y4m.specs.Text.{ascii}
 use Rattle.y4m.proofs.Same.{by-same}
 use Rattle.y4m.proofs.header.is_ours.Statement.{statement}

@@ -1,6 +1,6 @@
 -- `one_number`: one tag, whose value is decimal. Assumes nothing.
 use borrow.Author.Needs.{needs}
-use mathlib.Core.Path.{_≡_, ap, _∙_}
+use mathlib.Core.Path.{ap, _∙_}
 use Rattle.y4m.specs.Text.{tagsOf, valuesOf, isDecimal}
 use Rattle.y4m.proofs.Sides.{once}
 use Rattle.y4m.proofs.header.one_number.Statement.{statement}

@@ -1,7 +1,7 @@
 -- `other_planes`: there is no C, or one. Assumes nothing.
 use borrow.Author.Needs.{needs}
 use borrow.Author.Tests.{eq-eqb, ne-eqb}
-use mathlib.Core.Path.{_≡_, sym, ap, _∙_}
+use mathlib.Core.Path.{sym, ap, _∙_}
 use mathlib.Core.Bool.{not}
 use Rattle.y4m.specs.Stream.{colours, isOurs, otherPlanes}
 use Rattle.y4m.proofs.Sides.{never, all-none, all-one}

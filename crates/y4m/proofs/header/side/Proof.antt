@@ -1,7 +1,7 @@
 -- `side`: the value of the first tag. Assumes nothing.
 use borrow.Author.Needs.{needs}
 use Prim.Native.Nat.{ℕ}
-use mathlib.Core.Path.{_≡_, ap, _∙_}
+use mathlib.Core.Path.{ap, _∙_}
 use mathlib.Core.List.{List}
 use Rattle.y4m.specs.Text.{valueOf}
 use Rattle.y4m.specs.Places.{capped}

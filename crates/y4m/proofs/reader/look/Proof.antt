@@ -1,8 +1,7 @@
 -- `look`: what was seen. Assumes nothing.
 use borrow.Author.Needs.{needs}
 use Prim.Native.Nat.{ℕ}
-use mathlib.Core.Path.{_≡_, sym, ap, _∙_}
-use Rattle.sizes.specs.declared.Size.{Size}
+use mathlib.Core.Path.{sym, ap, _∙_}
 use Rattle.y4m.specs.Calls.{found, sizeSaid}
 use Rattle.y4m.proofs.reader.look.Statement.{statement}
 use Rattle.y4m.proofs.reader.look.Tie as tie

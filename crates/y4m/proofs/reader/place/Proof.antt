@@ -1,6 +1,6 @@
 -- `place`: as many bytes are copied as the plane has. Assumes nothing.
 use borrow.Author.Needs.{needs}
-use mathlib.Core.Path.{_≡_, ap, _∙_}
+use mathlib.Core.Path.{_∙_}
 use Rattle.y4m.proofs.Copied.{copied-part}
 use Rattle.y4m.proofs.reader.place.Statement.{statement}
 use Rattle.y4m.proofs.reader.place.Tie as tie

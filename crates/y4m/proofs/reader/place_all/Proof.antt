@@ -1,8 +1,7 @@
 -- `place_all`: three planes, one after the other. Assumes nothing.
 use borrow.Author.Needs.{needs}
 use Prim.Native.Nat.{ℕ, _+_, _*_}
-use mathlib.Core.Path.{_≡_, ap, _∙_}
-use native.Mathlib.Omega.{arith}
+use mathlib.Core.Path.{ap, _∙_}
 use lib.ListN.{take, drop}
 use Rattle.y4m.proofs.reader.place_all.Statement.{statement}
 use Rattle.y4m.proofs.reader.place_all.Tie as tie

@@ -1,7 +1,7 @@
 -- `appended`: by whether the number is too large. Assumes nothing.
 use borrow.Author.Needs.{needs}
 use Prim.Native.Nat.{ℕ, _+_, _*_}
-use mathlib.Core.Path.{_≡_, sym, ap, _∙_}
+use mathlib.Core.Path.{sym, ap, _∙_}
 use Rattle.y4m.specs.Places.{capped}
 use Rattle.y4m.proofs.Values.{capped-small, capped-large}
 use Rattle.y4m.proofs.text.appended.Statement.{statement}

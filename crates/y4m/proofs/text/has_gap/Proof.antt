@@ -1,9 +1,8 @@
 -- `has_gap`: none has ended before i. Assumes nothing.
 use borrow.Author.Needs.{needs}
-use Prim.Native.Nat.{ℕ, _-_, _≤_}
-use mathlib.Core.Path.{_≡_, refl, sym, ap, _∙_}
+use Prim.Native.Nat.{_-_, _≤_}
+use mathlib.Core.Path.{_≡_, refl, sym, _∙_}
 use lib.ListN.{length, drop}
-use native.Mathlib.Omega.{arith}
 use Rattle.y4m.specs.Places.{gapsBehind}
 use Rattle.y4m.proofs.Tags.{gaps-behind, gap-here, gap-later, gap-end}
 use Rattle.y4m.proofs.text.has_gap.Statement.{statement}

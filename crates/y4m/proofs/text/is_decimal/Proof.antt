@@ -1,10 +1,9 @@
 -- `is_decimal`: the first i bytes are digits. Assumes nothing.
 use borrow.Author.Needs.{needs}
 use borrow.Author.Tests.{not-true, not-false}
-use Prim.Native.Nat.{ℕ, _-_, _≤_}
-use mathlib.Core.Path.{_≡_, refl, sym, ap, _∙_}
+use Prim.Native.Nat.{_-_, _≤_}
+use mathlib.Core.Path.{_≡_, refl, sym, _∙_}
 use lib.ListN.{length, drop}
-use native.Mathlib.Omega.{arith}
 use Rattle.laws.proofs.Bools.{and-false}
 use Rattle.y4m.specs.Text.{isFull, all, isDigit}
 use Rattle.y4m.proofs.Values.{digit-here, digit-not, digits-end, decimal-test}

@@ -3,7 +3,6 @@ use borrow.Author.Needs.{needs}
 use Prim.Native.Nat.{ℕ, _+_, _-_, _≤_}
 use mathlib.Core.Path.{_≡_, refl, sym, ap, _∙_}
 use lib.ListN.{length, drop}
-use native.Mathlib.Omega.{arith}
 use Rattle.y4m.specs.Text.{valueFrom}
 use Rattle.y4m.specs.Places.{capped}
 use Rattle.y4m.proofs.Values.{value-turn, value-end}

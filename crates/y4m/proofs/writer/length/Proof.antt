@@ -1,6 +1,6 @@
 -- `length`: 0, or all of it. Assumes nothing.
 use borrow.Author.Needs.{needs}
-use mathlib.Core.Path.{_≡_, sym, _∙_}
+use mathlib.Core.Path.{sym, _∙_}
 use Rattle.y4m.proofs.writer.length.Statement.{statement}
 use Rattle.y4m.proofs.writer.length.Tie as tie
 

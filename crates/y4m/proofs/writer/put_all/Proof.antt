@@ -1,8 +1,6 @@
 -- `put_all`: the lines, and the planes behind them. Assumes nothing.
 use borrow.Author.Needs.{needs}
-use mathlib.Core.Path.{_≡_}
 use native.Mathlib.Omega.{arith}
-use lib.ListN.{length}
 use Rattle.y4m.specs.Stream.{linesWith}
 use Rattle.y4m.proofs.Written.{two-lines-length, planes-put}
 use Rattle.y4m.proofs.writer.put_all.Statement.{statement}

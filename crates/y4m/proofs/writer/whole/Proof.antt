@@ -1,7 +1,6 @@
 -- `whole`: the lines, and 384 bytes a macroblock. Assumes nothing.
 use borrow.Author.Needs.{needs}
-use Prim.Native.Nat.{ℕ, _+_, _*_}
-use mathlib.Core.Path.{_≡_, sym, ap, _∙_}
+use Prim.Native.Nat.{_*_}
 use native.Mathlib.Omega.{arith}
 use Rattle.sizes.proofs.Sized.{sized}
 use Rattle.y4m.proofs.Written.{pixels-of, two-lines-length}

@@ -1,5 +1,5 @@
 // The calls that read and write pictures as streams of YUV4MPEG2, for C.
-ghost use Rattle.y4m.specs.Calls.{ReadOutcome, LengthOutcome, WriteOutcome};
+ghost use Rattle.y4m.specs.Calls.{LookOutcome, ReadOutcome, LengthOutcome, WriteOutcome};
 ghost use Rattle.deblock.specs.Numbers.{sizeOf};
 use sizes::Size;
 use y4m::Found;

@@ -11,8 +11,8 @@ use Rattle.laws.specs.Refusal.{refusal}
 use Rattle.laws.proofs.Refusal.{first-applies, first-passed, stop, skip}
 use Rattle.sizes.specs.Sizes.{badPlanes}
 use Rattle.sizes.specs.declared.Size.{Size}
-use Rattle.y4m.specs.Calls.{ReadOutcome, found, sizeSaid, macroblocks, streamChecks, readChecks}
-use Rattle.y4m.specs.Stream.{count, planesAt, lumaRead, uRead, vRead}
+use Rattle.y4m.specs.Calls.{ReadOutcome, WriteOutcome, ifDone, found, sizeSaid, macroblocks, streamChecks, readChecks}
+use Rattle.y4m.specs.Stream.{count, planesAt, lumaRead, uRead, vRead, streamOf}
 use Rattle.y4m.specs.Places.{SeenIn}
 use Rattle.y4m.specs.declared.Found.{Found}
 
@@ -74,3 +74,14 @@ module _ (s luma u v : List ℕ) {n : ℕ} {size : Size} {at : ℕ} (g : SeenIn 
         (p ∙ (λ i. take (256 * count (e i)) (drop (d i) s)))
         (q ∙ (λ i. take (64 * count (e i)) (drop (d i + 256 * count (e i)) s)))
         (o ∙ (λ i. take (64 * count (e i)) (drop (d i + 320 * count (e i)) s)))
+
+-- ---- one outcome only
+pub one-read : {s luma u v luma₁ u₁ v₁ luma₂ u₂ v₂ : List ℕ} {r q : Found} → ReadOutcome s luma u v r luma₁ u₁ v₁ → ReadOutcome s luma u v q luma₂ u₂ v₂
+    → (r ≡ q) × (luma₁ ≡ luma₂) × (u₁ ≡ u₂) × (v₁ ≡ v₂)
+one-read a b = (a .answer ∙ sym (b .answer), a .luma ∙ sym (b .luma), a .u ∙ sym (b .u), a .v ∙ sym (b .v))
+
+pub one-write : {size : Size} {luma u v s s₁ s₂ : List ℕ} {n m : ℕ} → WriteOutcome size luma u v s n s₁ → WriteOutcome size luma u v s m s₂
+    → (n ≡ m) × (s₁ ≡ s₂)
+one-write {size} {luma} {u} {v} {s} a b =
+    let e = a .answer ∙ sym (b .answer) in
+    (e, a .stream ∙ ap (λ (k : ℕ). ifDone k (streamOf size luma u v) s) e ∙ sym (b .stream))

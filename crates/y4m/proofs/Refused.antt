@@ -1,6 +1,6 @@
 -- Wrong readers and writers, each shown to break the promise on a small stream; and that a refusal changes
 -- nothing. Assumes nothing.
-use Prim.Native.Nat.{ℕ}
+use Prim.Native.Nat.{ℕ, _+_, _*_}
 use mathlib.Core.Path.{_≡_, sym, ap, _∙_}
 use mathlib.Core.Bool.{Bool, false, cond}
 use mathlib.Core.List.{List, [], _++_, replicate}
@@ -12,7 +12,7 @@ use Rattle.laws.specs.Refusal.{refusal}
 use Rattle.sizes.specs.declared.Size.{Size}
 use Rattle.y4m.specs.Text.{ascii, digitsIn}
 use Rattle.y4m.specs.Stream.{malformed, otherPlanes, badSides, sizeIn, planesAt, linesWith, lumaRead, uRead, vRead}
-use Rattle.y4m.specs.Calls.{readChecks, macroblocks, ReadOutcome, WriteOutcome}
+use Rattle.y4m.specs.Calls.{readChecks, macroblocks, LookOutcome, ReadOutcome, LengthOutcome, WriteOutcome}
 use Rattle.y4m.specs.declared.Found.{Found}
 use Rattle.y4m.proofs.Examples.{greyBytes, numberFor, no-lines, no-picture, first-of-two}
 
@@ -77,3 +77,20 @@ longer-taken s₁ h = let k : _≡_ {A = ℕ} 0 18 = h .answer in omega arith
 pub length-first : (s₁ : List ℕ) → Writes [] [] 18 s₁ → ⊥
 unfolding linesWith digitsIn
 length-first s₁ h = let k : _≡_ {A = ℕ} 18 3 = h .answer in omega arith
+
+-- ---- the size alone: told of a stream that is cut short, or beside the refusal
+pub cut-looked : LookOutcome (ascii "YUV4MPEG2 W16 H16\nFRAME\n") (record { number = 0; w = 1; h = 1 }) → ⊥
+unfolding malformed otherPlanes badSides sizeIn planesAt
+cut-looked h = let k : _≡_ {A = ℕ} 0 18 = ap (λ (f : Found). f .number) h in omega arith
+
+pub size-with-18 : LookOutcome (ascii "YUV4MPEG2 W16 H16\nFRAME\n") (record { number = 18; w = 1; h = 1 }) → ⊥
+unfolding malformed otherPlanes badSides sizeIn planesAt
+size-with-18 h = let k : _≡_ {A = ℕ} 1 0 = ap (λ (f : Found). f .w) h in omega arith
+
+-- ---- the length: of a size that is refused, and with two digits for 720 pixels
+pub length-of-none : LengthOutcome (record { w = 0; h = 1 }) 33 → ⊥
+length-of-none h = let k : _≡_ {A = ℕ} 33 0 = h in omega arith
+
+pub two-digits : LengthOutcome (record { w = 45; h = 1 }) (34 + 384 * 45) → ⊥
+unfolding linesWith digitsIn
+two-digits h = let k : _≡_ {A = ℕ} 17314 17315 = h in omega arith

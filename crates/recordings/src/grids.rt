@@ -47,14 +47,19 @@ fn vectors(to: &mut [i16], raw: &[u8]) {
     }
 }
 
-// One list's references and vectors, by way of two spaces of their sizes in bytes.
-fn list(
-    fd: i32,
-    refs: &mut [i8],
-    mvs: &mut [i16],
-    raw_refs: &mut [u8],
-    raw_mvs: &mut [u8],
-) -> bool {
+// One list's references and vectors, by way of spaces for their bytes; false where those are too small.
+fn list(fd: i32, refs: &mut [i8], mvs: &mut [i16]) -> bool {
+    let k = refs.len();
+    let k2 = mvs.len();
+    if 1920 < k {
+        return false;
+    }
+    if 3840 < k2 {
+        return false;
+    }
+    let k4 = 2 * k2;
+    let raw_refs = &mut space::blocks()[..k];
+    let raw_mvs = &mut space::chroma()[..k4];
     let one = fill(fd, raw_refs);
     let two = fill(fd, raw_mvs);
     references(refs, raw_refs);
@@ -129,15 +134,11 @@ fn read(
     mv0: &mut [i16],
     ref1: &mut [i8],
     mv1: &mut [i16],
-    raw_refs0: &mut [u8],
-    raw_mvs0: &mut [u8],
-    raw_refs1: &mut [u8],
-    raw_mvs1: &mut [u8],
 ) -> bool {
     let a = fill(fd, inter);
     let b = fill(fd, nnz);
-    let c = list(fd, ref0, mv0, raw_refs0, raw_mvs0);
-    let d = list(fd, ref1, mv1, raw_refs1, raw_mvs1);
+    let c = list(fd, ref0, mv0);
+    let d = list(fd, ref1, mv1);
     a & b & c & d
 }
 
@@ -153,28 +154,12 @@ fn read_and_derive(
     mv0: &mut [i16],
     ref1: &mut [i8],
     mv1: &mut [i16],
-    raw_refs0: &mut [u8],
-    raw_mvs0: &mut [u8],
-    raw_refs1: &mut [u8],
-    raw_mvs1: &mut [u8],
     t8s: &[u8],
     s: &mut [u8],
 ) -> bool
     ensures { λ r. ⌜ DerivedAll size field (grids (now (inter .exit)) (now (nnz .exit)) (now (ref0 .exit)) (now (mv0 .exit)) (now (ref1 .exit)) (now (mv1 .exit))) (now (t8s .entry)) n (now (s .entry)) r (now (s .exit)) ⌝ }
 {
-    let whole = read(
-        fd,
-        inter,
-        nnz,
-        ref0,
-        mv0,
-        ref1,
-        mv1,
-        raw_refs0,
-        raw_mvs0,
-        raw_refs1,
-        raw_mvs1,
-    );
+    let whole = read(fd, inter, nnz, ref0, mv0, ref1, mv1);
     whole & derive(size, field, n, inter, nnz, ref0, mv0, ref1, mv1, t8s, s)
 }
 
@@ -194,38 +179,15 @@ pub fn strengths_of(
     if 120 < n {
         return false;
     }
-    let mut inter = space::blocks();
-    let mut nnz = space::blocks();
-    let mut ref0 = space::references();
-    let mut mv0 = space::vectors();
-    let mut ref1 = space::references();
-    let mut mv1 = space::vectors();
-    let mut raw_refs0 = space::blocks();
-    let mut raw_mvs0 = space::chroma();
-    let mut raw_refs1 = space::blocks();
-    let mut raw_mvs1 = space::chroma();
     let k = 16 * n;
     let k2 = 32 * n;
-    let k4 = 64 * n;
     let m = only_if(lists, k);
     let m2 = only_if(lists, k2);
-    let m4 = only_if(lists, k4);
-    read_and_derive(
-        fd,
-        size,
-        field,
-        n,
-        &mut inter[..k],
-        &mut nnz[..k],
-        &mut ref0[..k],
-        &mut mv0[..k2],
-        &mut ref1[..m],
-        &mut mv1[..m2],
-        &mut raw_refs0[..k],
-        &mut raw_mvs0[..k4],
-        &mut raw_refs1[..m],
-        &mut raw_mvs1[..m4],
-        t8s,
-        s,
-    )
+    let inter = &mut space::blocks()[..k];
+    let nnz = &mut space::blocks()[..k];
+    let ref0 = &mut space::references()[..k];
+    let mv0 = &mut space::vectors()[..k2];
+    let ref1 = &mut space::references()[..m];
+    let mv1 = &mut space::vectors()[..m2];
+    read_and_derive(fd, size, field, n, inter, nnz, ref0, mv0, ref1, mv1, t8s, s)
 }

@@ -10,120 +10,19 @@ ghost use Rattle.recordings.specs.Orders.{mostOf};
 mod both;
 mod bytes;
 mod grids;
+mod load;
 mod orders;
 mod space;
 mod ways;
 
 use both::Shape;
-use bytes::fill;
 use bytes::number;
 use bytes::text;
 use bytes::verdict;
 use edges::Offsets;
+use load::Found;
+use load::Head;
 use sizes::Size;
-
-// An offset: a byte that stands for -128 to 127.
-fn offset(b: u8) -> i32 {
-    if b < 128 {
-        return b as i32;
-    }
-    let below = 255 - b;
-    !(below as i32)
-}
-
-// Three parts, one after the other.
-fn three(fd: i32, a: &mut [u8], b: &mut [u8], c: &mut [u8]) -> bool {
-    fill(fd, a) & fill(fd, b) & fill(fd, c)
-}
-
-// What a header says: the size and the number of macroblocks of a picture, whether there are two pictures,
-// list 1 and an 8x8 grid, whether the strengths are free of grids, the chroma offset.
-struct Head {
-    size: Size,
-    n: usize,
-    two: bool,
-    lists: bool,
-    t8: bool,
-    free: bool,
-    chroma: i32,
-}
-
-// What was read of a picture's grids and strengths: whether it was all there, and whether the strengths
-// derived from the grids are those of the file, by `check::same` of the kit.
-struct Strengths {
-    good: bool,
-    same: bool,
-}
-
-// .. of all of a picture, with its offsets.
-struct Loaded {
-    good: bool,
-    same: bool,
-    o: Offsets,
-}
-
-// .. of all pictures; `free`: the strengths are free of grids.
-struct Found {
-    whole: bool,
-    free: bool,
-    same: bool,
-}
-
-fn at_most(k: usize, most: usize) -> usize
-    ensures { λ r. ⌜ r ≤ most ⌝ }
-{
-    if k < most {
-        return k;
-    }
-    most
-}
-
-// Reads the grids of a picture and its strengths s; made are those that are derived from the grids.
-fn load_strengths(fd: i32, head: Head, t: &[u8], made: &mut [u8], s: &mut [u8]) -> Strengths {
-    let n = grids::only_if(!head.free, head.n);
-    let derived = grids::strengths_of(fd, head.size, head.two, n, head.lists, t, made);
-    let last = fill(fd, s);
-    Strengths {
-        good: derived & last,
-        same: check::same(made, s),
-    }
-}
-
-// Reads the parts of a picture, in the file's order: offsets, QPs q, 8x8 flags t, grids, strengths s.
-fn load(fd: i32, head: Head, q: &mut [u8], t: &mut [u8], s: &mut [u8]) -> Loaded {
-    let mut ab = [0u8; 2];
-    let first = three(fd, &mut ab, q, t);
-    let mut made = space::strengths();
-    let k = at_most(s.len(), 3840);
-    let last = load_strengths(fd, head, t, &mut made[..k], s);
-    let o = Offsets {
-        a: offset(ab[0]),
-        b: offset(ab[1]),
-        chroma: head.chroma,
-    };
-    Loaded {
-        good: first & last.good,
-        same: last.same,
-        o,
-    }
-}
-
-// .. of the second picture, where there is one.
-fn load_second(fd: i32, head: Head, q: &mut [u8], t: &mut [u8], s: &mut [u8]) -> Loaded {
-    if head.two {
-        return load(fd, head, q, t, s);
-    }
-    let o = Offsets {
-        a: 0,
-        b: 0,
-        chroma: 0,
-    };
-    Loaded {
-        good: true,
-        same: true,
-        o,
-    }
-}
 
 fn same_strengths(free: bool, same: bool) {
     if free {
@@ -200,10 +99,10 @@ fn replay(
     q2: &mut [u8],
     t2: &mut [u8],
 ) -> bool {
-    let before = three(fd, luma, u, v);
-    let after = three(fd, ay, au, av);
-    let one = load(fd, head, q, t, s);
-    let two = load_second(fd, head, q2, t2, s2);
+    let before = load::three(fd, luma, u, v);
+    let after = load::three(fd, ay, au, av);
+    let one = load::load(fd, head, q, t, s);
+    let two = load::load_second(fd, head, q2, t2, s2);
     let found = Found {
         whole: before & after & one.good & two.good,
         free: head.free,
@@ -226,18 +125,6 @@ fn picture(fd: i32, head: Head) -> bool {
 fn in_space(fd: i32, head: Head) -> bool
     requires { ⌜ head .n ≤ mostOf (head .two) ⌝ }
 {
-    let mut luma = space::luma();
-    let mut u = space::chroma();
-    let mut v = space::chroma();
-    let mut ay = space::luma();
-    let mut au = space::chroma();
-    let mut av = space::chroma();
-    let mut q = space::marks();
-    let mut t = space::marks();
-    let mut s = space::strengths();
-    let mut q2 = space::marks();
-    let mut t2 = space::marks();
-    let mut s2 = space::strengths();
     let n = head.n;
     let m = both::frames(head.two, n);
     let ky = 256 * m;
@@ -247,22 +134,19 @@ fn in_space(fd: i32, head: Head) -> bool
     let n2 = grids::only_if(head.two, n);
     let ks2 = 32 * n2;
     let kt2 = grids::only_if(head.t8, n2);
-    replay(
-        fd,
-        head,
-        &mut luma[..ky],
-        &mut u[..kc],
-        &mut v[..kc],
-        &mut ay[..ky],
-        &mut au[..kc],
-        &mut av[..kc],
-        &mut s[..ks],
-        &mut q[..n],
-        &mut t[..kt],
-        &mut s2[..ks2],
-        &mut q2[..n2],
-        &mut t2[..kt2],
-    )
+    let luma = &mut space::luma()[..ky];
+    let u = &mut space::chroma()[..kc];
+    let v = &mut space::chroma()[..kc];
+    let ay = &mut space::luma()[..ky];
+    let au = &mut space::chroma()[..kc];
+    let av = &mut space::chroma()[..kc];
+    let s = &mut space::strengths()[..ks];
+    let q = &mut space::marks()[..n];
+    let t = &mut space::marks()[..kt];
+    let s2 = &mut space::strengths()[..ks2];
+    let q2 = &mut space::marks()[..n2];
+    let t2 = &mut space::marks()[..kt2];
+    replay(fd, head, luma, u, v, ay, au, av, s, q, t, s2, q2, t2)
 }
 
 // A header of eight bits, a frame or two fields, with one chroma offset, no slices and no reference tables.
@@ -324,7 +208,7 @@ fn recording(fd: i32, name: &[u8]) -> bool {
             lists: has(head[10], 1),
             t8: has(head[10], 2),
             free: has(head[10], 16),
-            chroma: offset(head[11]),
+            chroma: load::offset(head[11]),
         },
     )
 }

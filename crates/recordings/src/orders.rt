@@ -6,7 +6,7 @@ ghost use mathlib.Core.Bool.{true};
 ghost use mathlib.Core.Logic.{_↔_};
 ghost use Rattle.edges.specs.Picture.{planes};
 ghost use Rattle.recordings.specs.Bytes.{copied};
-ghost use Rattle.recordings.specs.Orders.{recording, visitsTo, filtered, Becomes, ComesOut, Judged};
+ghost use Rattle.recordings.specs.Orders.{recording, visitsTo, filtered, ComesOut, Judged};
 ghost use Rattle.recordings.specs.Ways.{turnsOf};
 use crate::both::Shape;
 use crate::both::frames;
@@ -82,37 +82,7 @@ fn same(ty: &[u8], tu: &[u8], tv: &[u8], ay: &[u8], au: &[u8], av: &[u8]) -> boo
     check::same(ty, ay) & check::same(tu, au) & check::same(tv, av)
 }
 
-// Whether planes that are filled with luma, u and v become ay, au and av.
-fn becomes(
-    way: Way,
-    h: Shape,
-    luma: &[u8],
-    u: &[u8],
-    v: &[u8],
-    ay: &[u8],
-    au: &[u8],
-    av: &[u8],
-    s: &[u8],
-    q: &[u8],
-    t: &[u8],
-    s2: &[u8],
-    q2: &[u8],
-    t2: &[u8],
-    ty: &mut [u8],
-    tu: &mut [u8],
-    tv: &mut [u8],
-    marks: &mut [u8],
-    marks2: &mut [u8],
-) -> bool
-    ensures { λ r. ⌜ (r ≡ true) ↔ Becomes way (recording h (now (s .entry)) (now (q .entry)) (now (t .entry)) (now (s2 .entry)) (now (q2 .entry)) (now (t2 .entry))) (planes (copied (now (ty .entry)) (now (luma .entry))) (copied (now (tu .entry)) (now (u .entry))) (copied (now (tv .entry)) (now (v .entry))), now (marks .entry), now (marks2 .entry)) (planes (now (ay .entry)) (now (au .entry)) (now (av .entry))) ⌝ }
-{
-    copies(ty, tu, tv, luma, u, v);
-    filter(way, h, ty, tu, tv, s, q, t, s2, q2, t2, marks, marks2);
-    let visited = is_whole(way) | (all_ones(marks) & all_ones(marks2));
-    visited & same(ty, tu, tv, ay, au, av)
-}
-
-// The same in planes of this function's own.
+// Whether planes of this function's own, filled with luma, u and v, become ay, au and av.
 fn holds(
     way: Way,
     h: Shape,
@@ -135,36 +105,19 @@ fn holds(
     if most(h.two) < n {
         return false;
     }
-    let mut ty = space::luma();
-    let mut tu = space::chroma();
-    let mut tv = space::chroma();
-    let mut marks = space::marks();
-    let mut marks2 = space::marks();
     let m = frames(h.two, n);
     let n2 = only_if(h.two, n);
     let ky = 256 * m;
     let kc = 64 * m;
-    becomes(
-        way,
-        h,
-        luma,
-        u,
-        v,
-        ay,
-        au,
-        av,
-        s,
-        q,
-        t,
-        s2,
-        q2,
-        t2,
-        &mut ty[..ky],
-        &mut tu[..kc],
-        &mut tv[..kc],
-        &mut marks[..n],
-        &mut marks2[..n2],
-    )
+    let ty = &mut space::luma()[..ky];
+    let tu = &mut space::chroma()[..kc];
+    let tv = &mut space::chroma()[..kc];
+    let marks = &mut space::marks()[..n];
+    let marks2 = &mut space::marks()[..n2];
+    copies(ty, tu, tv, luma, u, v);
+    filter(way, h, ty, tu, tv, s, q, t, s2, q2, t2, marks, marks2);
+    let visited = is_whole(way) | (all_ones(marks) & all_ones(marks2));
+    visited & same(ty, tu, tv, ay, au, av)
 }
 
 // Whether a recording came out as recorded, in each way.

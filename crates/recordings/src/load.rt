@@ -1,0 +1,111 @@
+// Reads the parts of a recording that follow its header (FORMAT.md), in the file's order, into spaces that
+// are lent. No contract can say what a file holds: it is proved that reading is safe and ends.
+ghost use Prim.Native.Nat.{_≤_};
+use crate::bytes::fill;
+use crate::grids;
+use crate::space;
+use edges::Offsets;
+use sizes::Size;
+
+// An offset: a byte that stands for -128 to 127.
+pub fn offset(b: u8) -> i32 {
+    if b < 128 {
+        return b as i32;
+    }
+    let below = 255 - b;
+    !(below as i32)
+}
+
+// Three parts, one after the other.
+pub fn three(fd: i32, a: &mut [u8], b: &mut [u8], c: &mut [u8]) -> bool {
+    fill(fd, a) & fill(fd, b) & fill(fd, c)
+}
+
+// What a header says: the size and the number of macroblocks of a picture, whether there are two pictures,
+// list 1 and an 8x8 grid, whether the strengths are free of grids, the chroma offset.
+pub struct Head {
+    pub size: Size,
+    pub n: usize,
+    pub two: bool,
+    pub lists: bool,
+    pub t8: bool,
+    pub free: bool,
+    pub chroma: i32,
+}
+
+// What was read of a picture's grids and strengths: whether it was all there, and whether the strengths
+// derived from the grids are those of the file, by `check::same` of the kit.
+struct Strengths {
+    good: bool,
+    same: bool,
+}
+
+// .. of all of a picture, with its offsets.
+pub struct Loaded {
+    pub good: bool,
+    pub same: bool,
+    pub o: Offsets,
+}
+
+// .. of all pictures; `free`: the strengths are free of grids.
+pub struct Found {
+    pub whole: bool,
+    pub free: bool,
+    pub same: bool,
+}
+
+fn at_most(k: usize, most: usize) -> usize
+    ensures { λ r. ⌜ r ≤ most ⌝ }
+{
+    if k < most {
+        return k;
+    }
+    most
+}
+
+// Reads the grids of a picture and its strengths s; made are those that are derived from the grids.
+fn load_strengths(fd: i32, head: Head, t: &[u8], made: &mut [u8], s: &mut [u8]) -> Strengths {
+    let n = grids::only_if(!head.free, head.n);
+    let derived = grids::strengths_of(fd, head.size, head.two, n, head.lists, t, made);
+    let last = fill(fd, s);
+    Strengths {
+        good: derived & last,
+        same: check::same(made, s),
+    }
+}
+
+// Reads the parts of a picture, in the file's order: offsets, QPs q, 8x8 flags t, grids, strengths s.
+pub fn load(fd: i32, head: Head, q: &mut [u8], t: &mut [u8], s: &mut [u8]) -> Loaded {
+    let mut ab = [0u8; 2];
+    let first = three(fd, &mut ab, q, t);
+    let mut made = space::strengths();
+    let k = at_most(s.len(), 3840);
+    let last = load_strengths(fd, head, t, &mut made[..k], s);
+    let o = Offsets {
+        a: offset(ab[0]),
+        b: offset(ab[1]),
+        chroma: head.chroma,
+    };
+    Loaded {
+        good: first & last.good,
+        same: last.same,
+        o,
+    }
+}
+
+// .. of the second picture, where there is one.
+pub fn load_second(fd: i32, head: Head, q: &mut [u8], t: &mut [u8], s: &mut [u8]) -> Loaded {
+    if head.two {
+        return load(fd, head, q, t, s);
+    }
+    let o = Offsets {
+        a: 0,
+        b: 0,
+        chroma: 0,
+    };
+    Loaded {
+        good: true,
+        same: true,
+        o,
+    }
+}

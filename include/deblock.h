@@ -1,13 +1,14 @@
 /* The deblocking filter's C interface: C99 and later, C++17. docs/RULES.md states the rules that it keeps;
  * docs/GUIDE.md, "From C", says how it is used and linked.
  *
- * The archive has six flat calls. Each is proved to do what its contract in crates/deblock/src says, for
- * every content of the memory lent. At the end of this file are six functions over structs, which hand the
- * structs' members on to the flat calls: start there. They are compiled with the caller and are not proved;
- * examples/tests looks at every argument that they hand on.
+ * The archive has ten flat calls: three that filter, three that derive strengths, and four for pictures kept
+ * as YUV4MPEG2 streams. Each is proved to do what its contract in crates/deblock/src says, for every content
+ * of the memory lent. At the end of this file are six functions over structs, which hand the structs' members
+ * on to the first six of them: start there. They are compiled with the caller and are not proved;
+ * examples/tests looks at every argument that they hand on. The four of streams are short and have none.
  *
- * Every call answers a number of enum deblock_answer. A number other than 0 is a refusal, and a refusal
- * changes no byte of what was lent.
+ * Every call but deblock_y4m_length, which tells a length, answers a number of enum deblock_answer. A number
+ * other than 0 is a refusal, and a refusal changes no byte of what was lent.
  *
  * What a caller must keep, since C cannot say it and no call can test it:
  *   - each pointer is valid for the number of elements that follows it, to read, and to write where the
@@ -51,6 +52,11 @@
  * frame's, with the lines of both fields, and a call reads and writes its own field's. All else is lent per
  * field. Vectors are in quarter samples of the field, and a reference names a field: each has a number of its
  * own. docs/GUIDE.md, "Fields", has the calls for an interlaced frame.
+ *
+ * Streams. A YUV4MPEG2 stream is a header line, which says the size in pixels, and then for each picture a
+ * line FRAME and its planes, Y, U and V end to end. The calls below read its first picture and write streams
+ * of one. Planes are those of a frame, 256 * n, 64 * n and 64 * n, also where its fields are filtered.
+ * docs/GUIDE.md, "Streams", has more.
  */
 #ifndef DEBLOCK_H
 #define DEBLOCK_H
@@ -59,12 +65,13 @@
 #include <stdint.h>
 
 #define DEBLOCK_VERSION_MAJOR 0
-#define DEBLOCK_VERSION_MINOR 3
+#define DEBLOCK_VERSION_MINOR 4
 #define DEBLOCK_VERSION_PATCH 0
-#define DEBLOCK_VERSION "0.3.0"
+#define DEBLOCK_VERSION "0.4.0"
 
 /* What a call answers. Checks are made in the order of this list, each call making those whose data it takes;
- * the first that applies is the answer. The numbers are not in that order: 19 is asked between 2 and 3. */
+ * the first that applies is the answer. The numbers are not in that order: 19 is asked between 2 and 3. The
+ * calls of streams have orders of their own, which are said with them. */
 enum deblock_answer {
     DEBLOCK_DONE = 0,
     DEBLOCK_BAD_SIZE = 1,               /* w, h or their product is outside its range */
@@ -81,7 +88,11 @@ enum deblock_answer {
     DEBLOCK_MIXED_INTER = 11,           /* the 16 blocks, the 4 to the left or the 4 above differ in inter */
     DEBLOCK_UNTRUE = 12,                /* the kind, or a flag that is set, is not true of the grids */
     DEBLOCK_MARKED_ALREADY = 13,        /* the macroblock is marked */
-    DEBLOCK_NOT_READY = 14              /* its left, upper or upper right neighbour exists and is unmarked */
+    DEBLOCK_NOT_READY = 14,             /* its left, upper or upper right neighbour exists and is unmarked */
+    DEBLOCK_BAD_STREAM_LINE = 15,       /* a stream's header or FRAME line is malformed or has no newline */
+    DEBLOCK_OTHER_PLANES = 16,          /* its C tag is not 420, 420jpeg, 420mpeg2 or 420paldv */
+    DEBLOCK_BAD_SIDES = 17,             /* a side of it is no multiple of 16, or its size is out of range */
+    DEBLOCK_STREAM_LENGTH = 18          /* it is cut short; to be written: not just as long as it must be */
 };
 
 /* A sentence for an answer. */
@@ -103,9 +114,12 @@ static inline const char *deblock_answer_text(uint32_t answer)
         "the kind or a set flag is not true of the grids",
         "the macroblock was visited before",
         "its left, upper or upper right neighbour is not visited yet",
+        "the stream's header line or FRAME line is malformed or has no newline",
+        "the stream's C tag is not 420, 420jpeg, 420mpeg2 or 420paldv",
+        "a side of the stream's picture is no multiple of 16, or its size is out of range",
+        "the stream is cut short, or is not just as long as what is to be written",
+        "the part is not a frame, a top field or a bottom field",
     };
-    if (answer == DEBLOCK_BAD_PARITY)
-        return "the part is not a frame, a top field or a bottom field";
     return answer < sizeof texts / sizeof *texts ? texts[answer] : "no answer of this version";
 }
 
@@ -198,13 +212,45 @@ uint32_t deblock_strengths_kind(size_t w, size_t h, uint8_t field, size_t x, siz
                                 const int8_t *ref1, size_t ref1_len, const int16_t *mv1, size_t mv1_len,
                                 uint8_t *strengths, size_t strengths_len);
 
+/* The four calls of streams. The header line is YUV4MPEG2 and then tags, the other line FRAME and then tags
+ * or none; a single space stands before each tag and a newline right after the last. A tag is one or more
+ * bytes other than space and newline. Of the header line W and H are there once each, in decimal pixels with
+ * leading zeros or without, and C once at most; all other tags, and those after FRAME, are passed over. What
+ * follows the first picture is not looked at: to read the next of a stream, lend the header line, the
+ * picture's own FRAME line and its planes end to end. */
+
+/* What a call finds in a stream. */
+struct deblock_y4m {
+    uint32_t answer; /* of enum deblock_answer */
+    uint32_t w, h;   /* of the picture in macroblocks; both 0 unless answer is 0 */
+};
+
+/* Looks at a stream and tells how large its first picture is, so that planes can be made for it.
+ * Writes nothing. Answers 0, 15, 16, 17, 18: the order in which it asks. */
+struct deblock_y4m deblock_y4m_look(const uint8_t *stream, size_t stream_len);
+
+/* Places the planes of a stream's first picture.
+ * Writes luma, u, v. Answers 0, 15, 16, 17, 18, 3: the order in which it asks. */
+struct deblock_y4m deblock_y4m_read(const uint8_t *stream, size_t stream_len, uint8_t *luma, size_t luma_len,
+                                    uint8_t *u, size_t u_len, uint8_t *v, size_t v_len);
+
+/* How many bytes deblock_y4m_write writes for a picture of w by h macroblocks; 0 where it would answer 1. */
+size_t deblock_y4m_length(size_t w, size_t h);
+
+/* Writes a stream of one picture: the line YUV4MPEG2 Wn Hn C420mpeg2, n in pixels without leading zeros, the
+ * line FRAME, and the planes. Read again it gives the same planes. stream_len is just deblock_y4m_length.
+ * Writes stream. Answers 0, 1, 3, 18: the order in which it asks. */
+uint32_t deblock_y4m_write(size_t w, size_t h, const uint8_t *luma, size_t luma_len,
+                           const uint8_t *u, size_t u_len, const uint8_t *v, size_t v_len,
+                           uint8_t *stream, size_t stream_len);
+
 #ifdef __cplusplus
 }
 #endif
 
-/* The same calls over structs. Start a struct in static storage or as in `struct deblock_picture p =
+/* The first six calls over structs. Start a struct in static storage or as in `struct deblock_picture p =
  * DEBLOCK_NONE;`, and set its members by name. Members that a later version adds are then 0, which will mean
- * what this version does. How the structs are laid out is no part of the archive.
+ * what this version does. How these structs are laid out is no part of the archive; struct deblock_y4m is.
  *
  * A null pointer of length 0 means not lent. A null pointer with another length counts as a wrong length,
  * also where length 0 would do: a call that takes it answers 3, 4 or 5, unless an earlier check applies. */

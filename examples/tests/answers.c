@@ -1,5 +1,5 @@
-/* Every answer, part, kind and flag by its name, and the version. Prints the texts of the answers, and that
- * of a number which is none. */
+/* Every answer, part, kind and flag by its name, but for the answers of streams (streams.c), and the version.
+ * Prints the texts of all answers, and that of a number which is none. */
 #include "test.h"
 
 /* Each change stays while the next, which an earlier check finds, is made. */
@@ -112,10 +112,9 @@ static void parts(void)
 /* Prints the texts. All numbers that are none have the same. */
 static void texts(void)
 {
-    static const uint32_t none[] = {15, 16, 17, 18, UINT32_MAX};
-    for (uint32_t answer = DEBLOCK_DONE; answer <= DEBLOCK_NOT_READY; answer++)
+    static const uint32_t none[] = {21, 255, UINT32_MAX};
+    for (uint32_t answer = DEBLOCK_DONE; answer <= DEBLOCK_BAD_PARITY; answer++)
         printf("%s\n", deblock_answer_text(answer));
-    printf("%s\n", deblock_answer_text(DEBLOCK_BAD_PARITY));
     printf("%s\n", deblock_answer_text(DEBLOCK_BAD_PARITY + 1));
     for (size_t i = 0; i < sizeof none / sizeof *none; i++)
         expect("a text", 0, strcmp(deblock_answer_text(none[i]), deblock_answer_text(20)) != 0);

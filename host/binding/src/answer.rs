@@ -4,7 +4,8 @@ use std::{error, fmt};
 
 /// What a call answers, by the numbers of docs/RULES.md, "Answers". All but `Done` are refusals, and a
 /// refusal has changed nothing that was lent. They stand in the order in which calls look for them, which is
-/// not that of their numbers: 19 comes between 2 and 3. An answer must be looked at:
+/// not that of their numbers: 19 comes between 2 and 3. The calls of [`y4m`](crate::y4m) have orders of their
+/// own, which stand with them. An answer must be looked at:
 ///
 /// ```compile_fail
 /// #![deny(unused_must_use)]
@@ -45,10 +46,18 @@ pub enum Answer {
     MarkedAlready = 13,
     /// The left, upper or upper right neighbour exists and is unmarked.
     NotReady = 14,
+    /// A stream's header line or `FRAME` line is malformed or has no newline.
+    BadStreamLine = 15,
+    /// A stream's C tag is not 420, 420jpeg, 420mpeg2 or 420paldv.
+    OtherPlanes = 16,
+    /// A side of a stream's picture is no multiple of 16, or its size is out of range.
+    BadSides = 17,
+    /// A stream is cut short; one to be written is not just as long as it must be.
+    StreamLength = 18,
 }
 
 /// Each answer with its sentence, in the order of the numbers.
-const WORDS: [(Answer, &str); 16] = [
+const WORDS: [(Answer, &str); 20] = [
     (Answer::Done, "done"),
     (Answer::BadSize, "width, height or their product is out of range"),
     (Answer::Outside, "the macroblock is outside the picture, or the rows are not first <= last <= h"),
@@ -64,6 +73,10 @@ const WORDS: [(Answer, &str); 16] = [
     (Answer::Untrue, "the kind or a set flag is not true of the grids"),
     (Answer::MarkedAlready, "the macroblock was visited before"),
     (Answer::NotReady, "its left, upper or upper right neighbour is not visited yet"),
+    (Answer::BadStreamLine, "the stream's header line or FRAME line is malformed or has no newline"),
+    (Answer::OtherPlanes, "the stream's C tag is not 420, 420jpeg, 420mpeg2 or 420paldv"),
+    (Answer::BadSides, "a side of the stream's picture is no multiple of 16, or its size is out of range"),
+    (Answer::StreamLength, "the stream is cut short, or is not just as long as what is to be written"),
     (Answer::BadParity, "the part is not a frame, a top field or a bottom field"),
 ];
 
@@ -77,7 +90,7 @@ impl Answer {
         }
     }
 
-    /// The number that the archive answered, 0 to 14 or 19.
+    /// The number that the archive answered, 0 to 19.
     pub fn number(self) -> u32 {
         self as u32
     }
@@ -111,7 +124,7 @@ mod tests {
 
     #[test]
     fn numbers_and_words_are_in_step() {
-        let numbers: Vec<u32> = (0..=14).chain([19]).collect();
+        let numbers: Vec<u32> = (0..=19).collect();
         assert_eq!(WORDS.map(|(answer, _)| answer.number()), numbers[..]);
         for (answer, words) in WORDS {
             assert_eq!((Answer::of(answer.number()), answer.to_string().as_str()), (answer, words));
@@ -119,9 +132,9 @@ mod tests {
     }
 
     #[test]
-    #[should_panic(expected = "the archive answered 15")]
+    #[should_panic(expected = "the archive answered 20")]
     fn an_unknown_number_is_not_passed_on() {
-        let _ = Answer::of(15);
+        let _ = Answer::of(20);
     }
 
     #[test]

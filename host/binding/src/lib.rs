@@ -1,8 +1,9 @@
 //! The deblocking filter of the survey station: a safe binding over the archive of the proved code.
 //!
 //! A [`Picture`] holds what stays the same throughout a picture and borrows its memory. Its six methods are
-//! the six calls of the archive; each answers an [`Answer`]. What goes into the buffers stands in
-//! docs/RULES.md, "Sizes and layouts".
+//! the calls of the archive that derive strengths and filter; each answers an [`Answer`]. What goes into the
+//! buffers stands in docs/RULES.md, "Sizes and layouts". The module [`y4m`] has the other four calls, which
+//! read and write pictures kept as YUV4MPEG2 streams.
 //!
 //! # From grids to planes
 //!
@@ -158,6 +159,7 @@
 mod answer;
 mod lent;
 mod picture;
+pub mod y4m;
 // One line a grid, as in the C declarations, is easier to check by eye.
 #[rustfmt::skip]
 pub mod wire;

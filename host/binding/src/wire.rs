@@ -1,6 +1,6 @@
-//! The six calls as the archive has them: numbers in, a number out (docs/RULES.md, "Answers"). For a caller
-//! who must pass on a part, a kind or a flag as the byte that it is; [`Picture`] has the same calls with
-//! types.
+//! The ten calls as the archive has them: numbers in, numbers out (docs/RULES.md, "Answers"). For a caller
+//! who must pass on a part, a kind or a flag as the byte that it is; [`Picture`] and [`y4m`](crate::y4m) have
+//! the same calls with types.
 //!
 //! `part` is 0 for a frame, 1 for the top field and 2 for the bottom field; any other byte is refused.
 //! `field` is 0 for a frame, and any other byte means a field. The member `part` of a `Picture` is not read
@@ -10,7 +10,19 @@
 //! it: a slice is valid for its length, aligned, and not null even where it is empty; what is borrowed
 //! mutably is borrowed by nobody else, and does not overlap.
 
-use crate::{Grids, Picture, Place};
+use crate::{Grids, Picture, Place, Size};
+
+/// What a call finds in a YUV4MPEG2 stream, laid out as `struct deblock_y4m` of include/deblock.h.
+#[repr(C)]
+#[derive(Clone, Copy, PartialEq, Eq, Debug)]
+pub struct Y4m {
+    /// The answer.
+    pub answer: u32,
+    /// The picture's width in macroblocks, 0 unless the answer is 0.
+    pub w: u32,
+    /// Likewise its height.
+    pub h: u32,
+}
 
 mod c {
     extern "C" {
@@ -52,6 +64,17 @@ mod c {
             luma: *mut u8, luma_len: usize, u: *mut u8, u_len: usize, v: *mut u8, v_len: usize,
             strengths: *const u8, strengths_len: usize, qps: *const u8, qps_len: usize,
             t8s: *const u8, t8s_len: usize, marks: *mut u8, marks_len: usize,
+        ) -> u32;
+        pub fn deblock_y4m_look(stream: *const u8, stream_len: usize) -> super::Y4m;
+        pub fn deblock_y4m_read(
+            stream: *const u8, stream_len: usize,
+            luma: *mut u8, luma_len: usize, u: *mut u8, u_len: usize, v: *mut u8, v_len: usize,
+        ) -> super::Y4m;
+        pub fn deblock_y4m_length(w: usize, h: usize) -> usize;
+        pub fn deblock_y4m_write(
+            w: usize, h: usize,
+            luma: *const u8, luma_len: usize, u: *const u8, u_len: usize, v: *const u8, v_len: usize,
+            stream: *mut u8, stream_len: usize,
         ) -> u32;
     }
 }
@@ -135,10 +158,44 @@ pub fn visit(p: &mut Picture, part: u8, at: Place) -> u32 {
     }
 }
 
+/// How large the first picture of a stream is.
+pub fn y4m_look(stream: &[u8]) -> Y4m {
+    // SAFETY: the pointer and the length are a slice's, and nothing is written.
+    unsafe { c::deblock_y4m_look(stream.as_ptr(), stream.len()) }
+}
+
+/// Places the planes of a stream's first picture.
+pub fn y4m_read(stream: &[u8], luma: &mut [u8], u: &mut [u8], v: &mut [u8]) -> Y4m {
+    // SAFETY: every pointer and length is a slice's, and the planes are borrowed apart from each other.
+    unsafe {
+        c::deblock_y4m_read(
+            stream.as_ptr(), stream.len(),
+            luma.as_mut_ptr(), luma.len(), u.as_mut_ptr(), u.len(), v.as_mut_ptr(), v.len(),
+        )
+    }
+}
+
+/// How many bytes a written stream has; 0 where the size is refused.
+pub fn y4m_length(size: Size) -> usize {
+    // SAFETY: no memory is lent.
+    unsafe { c::deblock_y4m_length(size.w, size.h) }
+}
+
+/// Writes a stream of one picture.
+pub fn y4m_write(size: Size, luma: &[u8], u: &[u8], v: &[u8], stream: &mut [u8]) -> u32 {
+    // SAFETY: every pointer and length is a slice's, and the stream is borrowed by nobody else.
+    unsafe {
+        c::deblock_y4m_write(
+            size.w, size.h,
+            luma.as_ptr(), luma.len(), u.as_ptr(), u.len(), v.as_ptr(), v.len(),
+            stream.as_mut_ptr(), stream.len(),
+        )
+    }
+}
+
 #[cfg(test)]
 mod tests {
     use super::*;
-    use crate::Size;
 
     /// A part above 2 is refused with 19: before the planes' lengths, and after a place outside.
     #[test]

@@ -1,7 +1,8 @@
-//! Compares the proved archive with the Rust original, in fields with a model, every answer and every lent
-//! byte.
+//! Compares the proved archive with the Rust original, in fields and streams with models, every answer and
+//! every lent byte.
 
 mod arrivals;
+mod counts;
 mod differences;
 mod expect;
 mod fault;
@@ -22,6 +23,7 @@ mod session;
 mod shrink;
 mod small;
 mod small_fields;
+mod streams;
 mod subject;
 mod table;
 mod unread;
@@ -29,18 +31,21 @@ mod visits;
 
 use request::Structure;
 use rounds::Depth;
-use session::Session;
+use session::{Outcome, Session};
 use std::process::ExitCode;
 use std::time::{Duration, Instant};
 use subject::Archive;
 
 const HELP: &str = "judge: compares the proved archive with the Rust original, every answer and every lent byte,
-and in fields, which the original does not have, with a model of the rules that agrees with the original
+and in fields, which the original does not have, with a model of the rules that agrees with the original;
+streams, which it does not have either, with a reading of them that was written on its own
 
   judge bounded [SEED]       all small cases, then 80 rounds of random ones: about a minute
   judge long SECONDS [SEED]  all small cases, then rounds until the time is over
+  judge streams [SEED]       what of `bounded` is about streams
   judge round SEED           one round again, to replay a mismatch
-  judge mutants              runs wrong filters through the same comparison: all must be caught
+  judge mutants              runs wrong filters, and wrong readers and writers of streams, through the same
+                             comparison: all must be caught
   judge differences          prints the tables of docs/DIFFERENCES.md, having run each row: what the
                              original does where the archive refuses, and the other differences
   judge arrivals             prints what crates/arrivals must print
@@ -54,12 +59,15 @@ const ROUNDS: u64 = 80;
 fn main() -> ExitCode {
     let words: Vec<String> = std::env::args().skip(1).collect();
     let words: Vec<&str> = words.iter().map(String::as_str).collect();
+    let until = |seconds| move |_, time| time < Duration::from_secs(seconds);
     let passed = match words[..] {
-        ["bounded"] => compare(1, |k, _| k < ROUNDS),
-        ["bounded", seed] => number(seed).and_then(|seed| compare(seed, |k, _| k < ROUNDS)),
-        ["long", seconds] => number(seconds).and_then(|s| compare(fresh_seed(), |_, t| t < Duration::from_secs(s))),
+        ["bounded"] => compare(1, About::All, |k, _| k < ROUNDS),
+        ["bounded", seed] => number(seed).and_then(|seed| compare(seed, About::All, |k, _| k < ROUNDS)),
+        ["streams"] => compare(1, About::Streams, |k, _| k < ROUNDS),
+        ["streams", seed] => number(seed).and_then(|seed| compare(seed, About::Streams, |k, _| k < ROUNDS)),
+        ["long", seconds] => number(seconds).and_then(|s| compare(fresh_seed(), About::All, until(s))),
         ["long", seconds, seed] => {
-            number(seconds).and_then(|s| number(seed).and_then(|seed| compare(seed, |_, t| t < Duration::from_secs(s))))
+            number(seconds).and_then(|s| number(seed).and_then(|seed| compare(seed, About::All, until(s))))
         }
         ["round", seed] => number(seed).and_then(replay),
         ["mutants"] => Some(mistakes::run()),
@@ -91,62 +99,110 @@ fn fresh_seed() -> u64 {
     now.map_or(1, |t| t.as_nanos() as u64) >> 10
 }
 
+/// What a comparison is about.
+#[derive(Clone, Copy, PartialEq, Eq)]
+enum About {
+    All,
+    Streams,
+}
+
+/// What was compared so far, of pictures and of streams.
+struct Compared<'a> {
+    about: About,
+    pictures: Session<'a>,
+    streams: streams::Session<'a>,
+}
+
+impl<'a> Compared<'a> {
+    fn new(archive: &'a Archive, about: About) -> Self {
+        fault::watch();
+        Compared { about, pictures: Session::new(archive, true), streams: streams::Session::new(archive, true) }
+    }
+
+    fn small(&mut self) -> Outcome {
+        if self.about == About::All {
+            small::run(&mut self.pictures, 1)?;
+        }
+        streams::small(&mut self.streams)
+    }
+
+    /// One round; false, with what is wrong printed, where something is.
+    fn round(&mut self, seed: u64) -> bool {
+        fault::in_round(seed);
+        let pictures = match self.about {
+            About::All => rounds::round(&mut self.pictures, seed, Depth::Full),
+            About::Streams => Ok(()),
+        };
+        match pictures.and_then(|()| streams::round(&mut self.streams, seed, Depth::Full)) {
+            Ok(()) => true,
+            Err(failure) => {
+                println!("MISMATCH; again with: judge round {seed}\n{failure}");
+                false
+            }
+        }
+    }
+
+    /// How many were compared.
+    fn calls(&self) -> String {
+        let [frames, fields] = [Structure::Frame, Structure::Field].map(|of| self.pictures.calls(of));
+        let streams = self.streams.calls();
+        let all = frames + fields + streams;
+        format!("{all} calls ({frames} about frames, {fields} about fields, {streams} about streams)")
+    }
+
+    fn print(&self) {
+        if self.about == About::All {
+            self.pictures.print();
+        }
+        self.streams.print();
+    }
+
+    /// The numbers that no call about pictures, or none about streams, has answered.
+    fn unseen(&self) -> Vec<u32> {
+        let pictures = table::numbers().filter(|_| self.about == About::All);
+        let pictures = pictures.filter(|&number| self.pictures.answered(number) == 0);
+        let streams = streams::NUMBERS.into_iter().filter(|&number| self.streams.answered(number) == 0);
+        pictures.chain(streams).collect()
+    }
+}
+
 /// The small cases, then rounds with seeds from `seed` on as long as `goes_on` says so.
-fn compare(seed: u64, goes_on: impl Fn(u64, Duration) -> bool) -> Option<bool> {
+fn compare(seed: u64, about: About, goes_on: impl Fn(u64, Duration) -> bool) -> Option<bool> {
     let start = Instant::now();
     let took = || start.elapsed().as_secs_f64();
     println!("seed {seed}");
-    fault::watch();
     let archive = Archive::new();
-    let mut s = Session::new(&archive, true);
-    if let Err(failure) = small::run(&mut s, 1) {
+    let mut c = Compared::new(&archive, about);
+    if let Err(failure) = c.small() {
         println!("MISMATCH in the small cases\n{failure}");
         return Some(false);
     }
-    println!("small cases: {}, {:.1} s", calls(&s), took());
+    println!("small cases: {}, {:.1} s", c.calls(), took());
     let mut round = 0;
     let mut said = start;
     while goes_on(round, start.elapsed()) {
-        if !one_round(&mut s, seed + round) {
+        if !c.round(seed + round) {
             return Some(false);
         }
         round += 1;
         if said.elapsed() > Duration::from_secs(60) {
             said = Instant::now();
-            println!("{round} rounds: {}, {:.0} s", calls(&s), took());
+            println!("{round} rounds: {}, {:.0} s", c.calls(), took());
         }
     }
-    s.print();
-    println!("{} equal in {:.1} s, {round} rounds of seeds from {seed} on", calls(&s), took());
-    let unseen: Vec<u32> = table::numbers().filter(|&number| s.answered(number) == 0).collect();
+    c.print();
+    println!("{} equal in {:.1} s, {round} rounds of seeds from {seed} on", c.calls(), took());
+    let unseen = c.unseen();
     if !unseen.is_empty() {
         println!("but no call answered {unseen:?}: the run is too short to say anything of them");
     }
     Some(unseen.is_empty())
 }
 
-/// How many were compared.
-fn calls(s: &Session) -> String {
-    let [frames, fields] = [Structure::Frame, Structure::Field].map(|of| s.calls(of));
-    format!("{} calls ({frames} about frames, {fields} about fields)", frames + fields)
-}
-
 fn replay(seed: u64) -> Option<bool> {
-    fault::watch();
     let archive = Archive::new();
-    let mut s = Session::new(&archive, true);
-    let equal = one_round(&mut s, seed);
-    s.print();
+    let mut c = Compared::new(&archive, About::All);
+    let equal = c.round(seed);
+    c.print();
     Some(equal)
-}
-
-fn one_round(s: &mut Session, seed: u64) -> bool {
-    fault::in_round(seed);
-    match rounds::round(s, seed, Depth::Full) {
-        Ok(()) => true,
-        Err(failure) => {
-            println!("MISMATCH; again with: judge round {seed}\n{failure}");
-            false
-        }
-    }
 }

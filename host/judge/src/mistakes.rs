@@ -4,6 +4,7 @@ use crate::model::Model;
 use crate::rounds::{self, Depth};
 use crate::session::{Outcome, Session};
 use crate::small;
+use crate::streams;
 
 /// Declares the mistakes with what each of them does.
 macro_rules! mistakes {
@@ -13,6 +14,7 @@ macro_rules! mistakes {
         const MISTAKES: &[(Mistake, &str)] = &[$((Mistake::$name, $words)),*];
     };
 }
+pub(crate) use mistakes;
 
 mistakes! {
     RoundsTowardZero "delta is divided by 8 toward 0"
@@ -86,15 +88,36 @@ mistakes! {
     DoubledFrameTaken "a frame takes planes of twice the length"
 }
 
-/// Runs the faultless model, which must pass, and every wrong one, which must not. True if all is so.
+/// What is made with one mistake each, in words.
+pub struct Kind {
+    pub wrong: &'static str,
+    /// What is said where the one without a mistake passes, and where it does not.
+    pub faultless: &'static str,
+    pub at_fault: &'static str,
+}
+
+const FILTERS: Kind = Kind {
+    wrong: "wrong filters",
+    faultless: "the rules as a plain program: equal to the Rust original, in fields as far as that can be asked",
+    at_fault: "the model without a mistake is not equal to the Rust original: the judge is at fault",
+};
+
+/// Runs all wrong filters, and all wrong readers and writers of streams. True if all is as it must be.
 pub fn run() -> bool {
+    let filters = all_caught(&FILTERS, MISTAKES, trial);
+    let streams = streams::all_caught();
+    filters && streams
+}
+
+/// Tries the one without a mistake, which must pass, and every wrong one, which must not. True if all is so.
+pub fn all_caught<M: Copy>(kind: &Kind, mistakes: &[(M, &str)], trial: impl Fn(Option<M>) -> Outcome) -> bool {
     if let Err(failure) = trial(None) {
-        println!("the model without a mistake is not equal to the Rust original: the judge is at fault\n{failure}");
+        println!("{}\n{failure}", kind.at_fault);
         return false;
     }
-    println!("the rules as a plain program: equal to the Rust original, in fields as far as that can be asked");
+    println!("{}", kind.faultless);
     let mut missed = 0;
-    for (mistake, words) in MISTAKES {
+    for (mistake, words) in mistakes {
         match trial(Some(*mistake)) {
             Err(failure) => {
                 let how = failure.0.lines().next().unwrap_or_default();
@@ -106,7 +129,7 @@ pub fn run() -> bool {
             }
         }
     }
-    println!("{} wrong filters, {} caught", MISTAKES.len(), MISTAKES.len() - missed);
+    println!("{} {}, {} caught", mistakes.len(), kind.wrong, mistakes.len() - missed);
     missed == 0
 }
 

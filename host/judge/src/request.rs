@@ -168,7 +168,8 @@ impl Request {
     }
 }
 
-fn differs<T: Lent>(name: &str, got: &Buffer<T>, want: &Buffer<T>) -> Option<String> {
+/// The first place at which two buffers of a length differ, guards included, in words.
+pub fn differs<T: Lent>(name: &str, got: &Buffer<T>, want: &Buffer<T>) -> Option<String> {
     if got.all == want.all {
         return None; // the usual case, and much quicker than looking for a place
     }

@@ -1,5 +1,6 @@
 //! Compares calls one by one and keeps count.
 
+use crate::counts::Counts;
 use crate::expect::{expect, second_opinion};
 use crate::request::{Call, Request, Structure};
 use crate::shrink;
@@ -18,9 +19,6 @@ impl fmt::Display for Failure {
 
 pub type Outcome = Result<(), Failure>;
 
-/// How often each number was answered.
-type Numbers = BTreeMap<u32, u64>;
-
 pub struct Session<'a> {
     subject: &'a dyn Subject,
     /// Off for filters that are known to be wrong: that they are caught is all that is asked. No case is
@@ -29,7 +27,7 @@ pub struct Session<'a> {
     /// What the runs are about that are now made.
     of: Structure,
     /// For what each run is about, each run and each call.
-    counts: BTreeMap<(Structure, &'static str, Call), Numbers>,
+    counts: Counts<(Structure, &'static str, Call)>,
     /// For each other kind of comparison (a whole picture after visits), how many were made.
     others: BTreeMap<&'static str, u64>,
     /// Calls on frames that were done.
@@ -42,7 +40,7 @@ const MODEL_ASKED: u64 = 8;
 
 impl<'a> Session<'a> {
     pub fn new(subject: &'a dyn Subject, thorough: bool) -> Self {
-        let (counts, others) = (BTreeMap::new(), BTreeMap::new());
+        let (counts, others) = (Counts::new(), BTreeMap::new());
         Session { subject, thorough, of: Structure::Frame, counts, others, frames_done: 0 }
     }
 
@@ -138,32 +136,23 @@ impl<'a> Session<'a> {
 
     /// How many calls of the runs about frames, or about fields, were compared.
     pub fn calls(&self, of: Structure) -> u64 {
-        let own = self.counts.iter().filter(|((own, ..), _)| *own == of);
-        own.flat_map(|(_, numbers)| numbers.values()).sum()
+        self.counts.calls(|(own, ..)| *own == of)
     }
 
     /// How often a number was answered, over everything.
     pub fn answered(&self, number: u32) -> u64 {
-        self.counts.values().filter_map(|numbers| numbers.get(&number)).sum()
+        self.counts.answered(number)
     }
 
     pub fn print(&self) {
-        println!("{:<10}{:<12}{:<10}{:>10}{:>10}   refused, by number", "of", "run", "call", "calls", "done");
-        for ((of, run, call), numbers) in &self.counts {
-            let (calls, done) = (numbers.values().sum::<u64>(), numbers.get(&0).copied().unwrap_or(0));
-            let refused: Vec<String> =
-                numbers.iter().filter(|(n, _)| **n > 0).map(|(n, count)| format!("{n}: {count}")).collect();
-            let (of, call) = (of.words(), format!("{call:?}"));
-            println!("{of:<10}{run:<12}{call:<10}{calls:>10}{done:>10}   {}", refused.join(", "));
-        }
+        self.counts.print(|(of, run, call)| [of.words().to_string(), run.to_string(), format!("{call:?}")]);
         for (what, count) in &self.others {
             println!("{what}: {count}");
         }
     }
 
     fn count(&mut self, run: &'static str, call: Call, number: u32) {
-        let numbers = self.counts.entry((self.of, run, call)).or_default();
-        *numbers.entry(number).or_default() += 1;
+        self.counts.count((self.of, run, call), number);
     }
 }
 

@@ -3,7 +3,7 @@
 use crate::fence::{Fenced, Side};
 use crate::request::{Call, Request};
 use deblock::{wire, Grids, Offsets, Picture, Place, Size};
-use std::cell::{Cell, RefCell};
+use std::cell::{Cell, RefCell, RefMut};
 
 pub trait Subject {
     /// Makes the call on the request's own memory and gives its answer.
@@ -20,13 +20,23 @@ impl Archive {
     pub fn new() -> Archive {
         Archive { turn: Cell::new(0), fences: RefCell::new(std::array::from_fn(|_| Fenced::new())) }
     }
+
+    /// Which side of its buffers the next call has against a fence, if any.
+    pub fn next_side(&self) -> Option<Side> {
+        self.turn.set(self.turn.get() + 1);
+        [None, Some(Side::Start), Some(Side::End)][self.turn.get() % 3]
+    }
+
+    /// Room for as many buffers as a call may take.
+    pub fn fences(&self) -> RefMut<'_, [Fenced; 13]> {
+        self.fences.borrow_mut()
+    }
 }
 
 impl Subject for Archive {
     fn call(&self, r: &mut Request) -> u32 {
-        self.turn.set(self.turn.get() + 1);
-        let side = [None, Some(Side::Start), Some(Side::End)][self.turn.get() % 3];
-        let mut fences = self.fences.borrow_mut();
+        let side = self.next_side();
+        let mut fences = self.fences();
         let [f0, f1, f2, f3, f4, f5, f6, f7, f8, f9, f10, f11, f12] = &mut *fences;
         let (inter, nnz) = (f0.lend(&mut r.inter, side), f1.lend(&mut r.nnz, side));
         let (ref0, mv0) = (f2.lend(&mut r.ref0, side), f3.lend(&mut r.mv0, side));

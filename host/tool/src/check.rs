@@ -3,6 +3,7 @@
 use crate::beside::{Beside, Counts, Verdict};
 use crate::orderfile::OrderFile;
 use crate::orders::{self, Order};
+use crate::picture::Picture;
 use crate::progress::Progress;
 use crate::recording::Recording;
 use crate::station::{old_rule, replay};
@@ -38,29 +39,32 @@ impl Report {
     }
 }
 
-/// An order that does not fit the picture is trouble.
-pub fn picture(r: &Recording, plan: &Plan) -> Result<Report, Trouble> {
+/// What came out, and the picture as the library filtered it in the given order, or in raster order if none
+/// is given. An order that does not fit the picture is trouble.
+pub fn picture(r: &Recording, plan: &Plan) -> Result<(Report, Picture), Trouble> {
     let (parts, size) = (r.parts(), r.before.size);
     let mut report = strengths::check(r);
-    match &plan.given {
-        Some(file) => report.add(one(r, "the given order", &file.order(&parts, size)?, plan.once)),
-        None => {
-            for (name, order) in orders::named(&parts, size) {
-                report.add(one(r, name, &order, plan.once));
-            }
-            report.add(many(r, plan.once));
-        }
+    let orders = match &plan.given {
+        Some(file) => vec![("the given order", file.order(&parts, size)?)],
+        None => orders::named(&parts, size),
+    };
+    let mut ends = orders.iter().map(|(name, order)| one(r, name, order, plan.once));
+    let (first, filtered) = ends.next().expect("at least one order");
+    report.add(first);
+    ends.for_each(|(other, _)| report.add(other));
+    if plan.given.is_none() {
+        report.add(many(r, plan.once));
     }
-    Ok(report)
+    Ok((report, filtered))
 }
 
-/// Visits the macroblocks in one order.
-fn one(r: &Recording, name: &str, order: &Order, once: bool) -> Report {
+/// Visits the macroblocks in one order; also the picture at its end.
+fn one(r: &Recording, name: &str, order: &Order, once: bool) -> (Report, Picture) {
     let end = replay(&r.before, &r.settings, order, !once);
     let beside = Beside::of(r, &end);
     let mut lines = vec![format!("{name}: {}", end.answers())];
     lines.extend(beside.lines().iter().map(|line| format!("  {line}")));
-    Report { verdict: beside.verdict(), lines }
+    (Report { verdict: beside.verdict(), lines }, end.picture)
 }
 
 /// Visits them in random orders; the first that gives another picture is told in full.
@@ -72,7 +76,7 @@ fn many(r: &Recording, once: bool) -> Report {
         let order = orders::random(&r.parts(), r.before.size, seed);
         let beside = Beside::of(r, &replay(&r.before, &r.settings, &order, !once));
         if beside.verdict() == Verdict::Different && report.verdict != Verdict::Different {
-            report.add(one(r, &format!("random order of seed {seed}"), &order, once));
+            report.add(one(r, &format!("random order of seed {seed}"), &order, once).0);
         }
         report.verdict = report.verdict.max(beside.verdict());
         equal += u64::from(beside.verdict() == Verdict::Equal);
@@ -91,8 +95,8 @@ mod tests {
     use crate::recording::tests::{changed, fields, good, parse};
 
     fn said(recording: &[u8], once: bool) -> (Verdict, String) {
-        let report = picture(&parse(recording).expect("it reads"), &Plan { given: None, once });
-        let Report { verdict, lines } = report.expect("no order is given");
+        let checked = picture(&parse(recording).expect("it reads"), &Plan { given: None, once });
+        let (Report { verdict, lines }, _) = checked.expect("no order is given");
         (verdict, lines.join("\n"))
     }
 

@@ -17,8 +17,8 @@ pub fn run(files: [&Path; 2], extent: Option<Extent>, image: Option<Image>) -> R
         image.check(files, extent)?;
     }
     let (mut a, mut b) = (Pictures::open(files[0], extent)?, Pictures::open(files[1], extent)?);
-    if extent.is_some() && [&a, &b].iter().all(|p| matches!(p, Pictures::Recorded(_))) {
-        return Err(Trouble::new("--size is of raw planes, and both files are recordings"));
+    if extent.is_some() && ![&a, &b].iter().any(|p| matches!(p, Pictures::Raw { .. })) {
+        return Err(Trouble::new("--size is of raw planes, and both files say their size themselves"));
     }
     let mut comparison = Comparison { image, drawn: false, equal: 0, different: 0, more: [0; 2], first: None };
     let mut progress = Progress::open("pictures");

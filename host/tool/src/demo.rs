@@ -8,8 +8,8 @@ mod recorder;
 mod transform;
 mod wall;
 
-use crate::picture::Picture;
 use crate::trouble::{self, Trouble};
+use crate::y4m;
 use deblock::Offsets;
 use films::{Drift, Films, ORDERS, PICTURES};
 use std::path::Path;
@@ -58,7 +58,7 @@ film differs by at most {}.
     );
 }
 
-/// Writes the drawings, and each film as raw planes.
+/// Writes the drawings and the films.
 fn write(folder: &Path, films: &Films, drift: &[Drift]) -> Result<(), Trouble> {
     std::fs::create_dir_all(folder).map_err(|e| Trouble::in_file(folder, e))?;
     let last = PICTURES - 1;
@@ -66,20 +66,13 @@ fn write(folder: &Path, films: &Films, drift: &[Drift]) -> Result<(), Trouble> {
     trouble::write(&folder.join("lost.png"), &lost)?;
     trouble::write(&folder.join("drift.png"), &drawing::plot(drift))?;
     for (name, film) in [("recorder", &films.recorder), ("library", &films.library), ("old-rule", &films.old)] {
-        trouble::write(&folder.join(format!("{name}.yuv")), &planes(film))?;
+        trouble::write(&folder.join(format!("{name}.y4m")), &y4m::film(film))?;
     }
     println!(
         "In {}: lost.png, the last picture, right and old side by side; drift.png, the difference by
-picture number; recorder.yuv, library.yuv and old-rule.yuv, the films as raw planes, which
-`deblock compare A B --size {}x{}` tells apart.",
-        folder.display(),
-        16 * wall::SIZE.w,
-        16 * wall::SIZE.h
+picture number; recorder.y4m, library.y4m and old-rule.y4m, the films, which players show and
+`deblock compare A B` tells apart.",
+        folder.display()
     );
     Ok(())
-}
-
-/// The planes of all pictures end to end.
-fn planes(film: &[Picture]) -> Vec<u8> {
-    film.iter().flat_map(|p| [&p.luma[..], &p.u, &p.v]).collect::<Vec<_>>().concat()
 }

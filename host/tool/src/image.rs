@@ -59,7 +59,7 @@ impl Image {
 }
 
 /// Whether two names are of one file.
-fn same(a: &Path, b: &Path) -> bool {
+pub fn same(a: &Path, b: &Path) -> bool {
     let node = |f: &Path| f.metadata().ok().map(|m| (m.dev(), m.ino()));
     node(a).is_some() && node(a) == node(b)
 }

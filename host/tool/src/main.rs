@@ -28,6 +28,7 @@ mod strengths;
 mod trouble;
 #[cfg(test)]
 mod version;
+mod y4m;
 
 use options::Command;
 use std::process::ExitCode;
@@ -72,7 +73,7 @@ fn run(command: Command) -> Result<Outcome, Trouble> {
         Command::Help => println!("{}", HELP.trim_end()),
         Command::Version => println!("{}", VERSION.trim_end()),
         Command::Demo { folder } => return Ok(if demo::run(&folder)? { Outcome::Equal } else { Outcome::Different }),
-        Command::Replay { named, order, once } => return replay::run(&named, order.as_deref(), once),
+        Command::Replay { named, order, once, films } => return replay::run(&named, order.as_deref(), once, films),
         Command::Compare { files: [a, b], extent, image } => return compare::run([&a, &b], extent, image),
     }
     Ok(Outcome::Equal)

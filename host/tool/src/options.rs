@@ -3,6 +3,7 @@
 use crate::image::Image;
 use crate::raw::Extent;
 use crate::trouble::Trouble;
+use crate::y4m::folder::Destination;
 use std::ffi::{OsStr, OsString};
 use std::path::{Path, PathBuf};
 
@@ -10,14 +11,16 @@ pub enum Command {
     Help,
     Version,
     Demo { folder: PathBuf },
-    Replay { named: Vec<PathBuf>, order: Option<PathBuf>, once: bool },
+    Replay { named: Vec<PathBuf>, order: Option<PathBuf>, once: bool, films: Option<Destination> },
     Compare { files: [PathBuf; 2], extent: Option<Extent>, image: Option<Image> },
 }
 
 /// Every option: its name, its command, and whether a value follows it.
-const OPTIONS: [(&str, &str, bool); 5] = [
+const OPTIONS: [(&str, &str, bool); 7] = [
     ("--order", "replay", true),
     ("--once", "replay", false),
+    ("--y4m", "replay", true),
+    ("--force", "replay", false),
     ("--size", "compare", true),
     ("--png", "compare", true),
     ("--force", "compare", false),
@@ -111,7 +114,12 @@ impl Words {
             return wrong("which recordings? Files and folders are wanted");
         }
         let (order, once) = (self.value("--order").map(PathBuf::from), self.has("--once"));
-        Ok(Command::Replay { named: self.files, order, once })
+        let force = self.has("--force");
+        let films = self.value("--y4m").map(|folder| Destination { folder: folder.into(), force });
+        if force && films.is_none() {
+            return wrong("--force goes with --y4m");
+        }
+        Ok(Command::Replay { named: self.files, order, once, films })
     }
 
     fn compare(self) -> Result<Command, Trouble> {

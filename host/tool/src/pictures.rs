@@ -1,19 +1,21 @@
-//! The pictures of a file to compare: of recordings the planes after the filter, or raw planes.
+//! The pictures of a file to compare: of recordings the planes after the filter, of a film, or raw planes.
 
 use crate::raw::{Extent, Raw};
 use crate::recording::MAGIC;
 use crate::recordings::Recordings;
 use crate::source::Source;
 use crate::trouble::Trouble;
+use crate::y4m::{self, Film};
 use std::path::Path;
 
 pub enum Pictures {
     Recorded(Recordings),
+    Film(Film),
     Raw { source: Source, extent: Extent, read: usize },
 }
 
 impl Pictures {
-    /// `extent` is that of raw planes.
+    /// `extent` is that of raw planes. What a file is its first bytes tell, not its name.
     pub fn open(file: &Path, extent: Option<Extent>) -> Result<Pictures, Trouble> {
         Pictures::of(Source::open(file)?, extent)
     }
@@ -22,9 +24,13 @@ impl Pictures {
         if source.comes(MAGIC)? {
             return Ok(Pictures::Recorded(Recordings::new(source)));
         }
+        if source.comes(y4m::MAGIC)? {
+            return Ok(Pictures::Film(Film::new(source)?));
+        }
+        let neither = "this is no recording and no YUV4MPEG2 stream; for raw planes give --size WxH in pixels";
         match extent {
             Some(extent) => Ok(Pictures::Raw { source, extent, read: 0 }),
-            None => Err(source.trouble(0, "this is no recording; for raw planes give --size WxH in pixels")),
+            None => Err(source.trouble(0, neither)),
         }
     }
 
@@ -32,6 +38,7 @@ impl Pictures {
     pub fn next(&mut self) -> Result<Option<Raw>, Trouble> {
         match self {
             Pictures::Recorded(recordings) => Ok(recordings.next().transpose()?.map(|r| r.after.into())),
+            Pictures::Film(film) => Ok(film.next()?.map(Raw::from)),
             Pictures::Raw { source, extent, read } => {
                 if *read > 0 && source.at_end()? {
                     return Ok(None);
@@ -47,7 +54,9 @@ impl Pictures {
 #[cfg(test)]
 mod tests {
     use super::*;
+    use crate::picture::Picture;
     use crate::recording::tests::good;
+    use deblock::Size;
 
     fn said(bytes: &[u8], extent: Option<Extent>) -> (usize, String) {
         let source = Source::new(Path::new("x"), std::io::Cursor::new(bytes.to_vec()));
@@ -65,11 +74,16 @@ mod tests {
         }
     }
 
+    fn picture() -> Picture {
+        Picture::from_planes(Size { w: 1, h: 1 }, &[9; 384])
+    }
+
     #[test]
     fn pictures_are_counted_to_the_end() {
         let extent = Some(Extent { width: 4, height: 2 });
         assert_eq!(said(&[0; 36], extent), (3, String::new()));
         assert_eq!(said(&good().repeat(2), None), (2, String::new()));
+        assert_eq!(said(&y4m::film(&[picture(), picture()]), None), (2, String::new()));
         let cut = "x: at byte 24: picture 3: 12 bytes are wanted, the file ends after 11";
         assert_eq!(said(&[0; 35], extent), (2, cut.into()));
         let empty = "x: at byte 0: picture 1: 12 bytes are wanted, the file ends after 0";

@@ -50,6 +50,27 @@ impl Source {
         got.map(|_| ()).map_err(|e| Trouble::at_byte(&self.file, self.at, e))
     }
 
+    /// As many bytes, or as many as there are.
+    pub fn up_to(&mut self, count: usize) -> Result<Vec<u8>, Trouble> {
+        self.read_ahead(count)?;
+        let count = count.min(self.ahead.len());
+        let rest = self.ahead.split_off(count);
+        self.at += count;
+        Ok(std::mem::replace(&mut self.ahead, rest))
+    }
+
+    /// A line with its newline, or what there is of it at the end of the file. One that has more bytes than
+    /// `most` is trouble.
+    pub fn line(&mut self, most: usize, what: &str) -> Result<Vec<u8>, Trouble> {
+        for length in 1..=most {
+            self.read_ahead(length)?;
+            if self.ahead.len() < length || self.ahead[length - 1] == b'\n' {
+                return self.up_to(length);
+            }
+        }
+        Err(self.trouble(self.at, format!("{what} has more than {most} bytes, the most that this tool takes")))
+    }
+
     /// Just so many bytes.
     pub fn take(&mut self, count: usize, what: &str) -> Result<Vec<u8>, Trouble> {
         self.read_ahead(count)?;
@@ -57,9 +78,7 @@ impl Source {
         if left < count {
             return Err(self.trouble(self.at, format!("{what}: {count} bytes are wanted, the file ends after {left}")));
         }
-        let rest = self.ahead.split_off(count);
-        self.at += count;
-        Ok(std::mem::replace(&mut self.ahead, rest))
+        self.up_to(count)
     }
 
     /// Bytes that must all pass a test.
@@ -98,6 +117,16 @@ mod tests {
         let bad = s.byte("a letter", |b| b == b'f').expect_err("it is e").to_string();
         assert_eq!(bad, "x: at byte 4: a letter: 101 is out of range");
         assert!(s.at_end().expect("memory"));
+    }
+
+    #[test]
+    fn lines_end_with_a_newline_or_with_the_file() {
+        let mut s = Source::new(Path::new("x"), &b"ab\n\ncd"[..]);
+        assert_eq!([s.line(3, "a line").expect("short"), s.line(1, "a line").expect("short")], [&b"ab\n"[..], b"\n"]);
+        let long = s.line(1, "the last line").expect_err("two bytes are left").to_string();
+        assert_eq!(long, "x: at byte 4: the last line has more than 1 bytes, the most that this tool takes");
+        assert_eq!(s.line(3, "a line").expect("short"), b"cd");
+        assert!(s.line(3, "a line").expect("nothing is left").is_empty());
     }
 
     #[test]

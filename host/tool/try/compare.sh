@@ -38,7 +38,7 @@ says "picture 1: $picture bytes are wanted, the file ends after 0"
 expect 2 compare "$work/a.yuv" "$work/a.yuv"
 says "for raw planes give --size"
 expect 2 compare "$good" "$good" --size 32x32
-says "both files are recordings"
+says "--size is of raw planes, and both files say their size themselves"
 expect 2 compare "$good" "$work/cut.dbv"
 expect 2 compare "$good" "$work"
 says "Is a directory"

@@ -12,8 +12,8 @@ told() { case $readme in *"$1"*) ;; *) fail "README.md does not say: $1" ;; esac
 difference() { awk -v picture="$1" '$1 == picture && NF == 3 { print $3 }' "$log"; }
 told "at most $(difference 0) grey levels, in the 24th after it by $(difference 24):"
 told "differs by at most $(sed -n 's/^film differs by at most //p' "$log")"
-expect 0 compare "$work/film/recorder.yuv" "$work/film/library.yuv" --size 176x144
+expect 0 compare "$work/film/recorder.y4m" "$work/film/library.y4m"
 says "25 pictures: all samples"
-expect 1 compare "$work/film/recorder.yuv" "$work/film/old-rule.yuv" --size 176x144
+expect 1 compare "$work/film/recorder.y4m" "$work/film/old-rule.y4m"
 says "25 pictures: 0 equal, 25 different"
 echo "tool: the demonstration's drawings and figures are those of README.md"

@@ -39,6 +39,9 @@ tail -c "$noise" "$data/original.dbvs" >"$work/other.yuv"
     ulimit -f 8
     expect 2 compare "$work/noise.yuv" "$work/other.yuv" --size 176x144 --png "$png"
     says "File too large"
+    expect 2 replay "$wide" --y4m "$work/full"
+    says "full/b-003.y4m: File too large"
 )
 gone "$png"
+gone "$work/full/b-003.y4m"
 echo "tool: a full disk is told"

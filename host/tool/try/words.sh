@@ -10,12 +10,15 @@ expect 0 compare "$good" "$odd/$name.dbv"
 expect 1 compare $raw --png "$odd/$name.png"
 [ -s "$odd/$name.png" ] || fail "there is no difference called by a name that is not UTF-8"
 expect 0 demo "$odd/demo"
+expect 0 replay "$odd" --y4m "$odd/films"
+[ -s "$odd/films/$name.y4m" ] || fail "there is no film called by a name that is not UTF-8"
 expect 2 replay "$odd/none"
 expect 2 replay "$good" --order "$odd/none"
 expect 2 "$name"
 expect 2 compare "$good" "$good" --size "$name"
 
-for twice in "replay a --order o --order" "compare a b --size 2x2 --size" "compare a b --png p --png"; do
+for twice in "replay a --order o --order" "replay a --y4m f --y4m" "compare a b --size 2x2 --size" \
+    "compare a b --png p --png"; do
     expect 2 $twice o
     says "is given twice"
 done
@@ -29,6 +32,8 @@ expect 2 compare "$good"
 expect 2 replay
 expect 2 replay "$good" --png p
 expect 2 replay "$good" --order
+expect 2 replay "$good" --force
+says "--force goes with --y4m"
 expect 2 --version now
 expect 2 demo a b
 expect 2 no-such-command

@@ -4,7 +4,7 @@
 //! that is not the paint tells how deep it went; a thread that calls nothing tells what of that is the
 //! thread's own. Twice, with two paints, since a byte that the call wrote may look like one.
 
-use deblock::{Flags, Grids, Kind, Part, Picture, Place, Size};
+use deblock::{y4m, Flags, Grids, Kind, Part, Picture, Place, Size};
 use std::ffi::c_void;
 use std::mem::MaybeUninit;
 
@@ -94,6 +94,7 @@ fn main() {
         filtering(&show, part);
         strengths(&show, part);
     }
+    streams(&show);
     show("the Rust's whole picture", original());
 }
 
@@ -108,6 +109,16 @@ fn filtering(show: &dyn Fn(&str, usize), part: Part) {
             assert!(p.visit(LAST).is_done());
         })
     });
+}
+
+/// Of a stream that holds the frame.
+fn streams(show: &dyn Fn(&str, usize)) {
+    let Memory { planes: [mut luma, mut u, mut v], .. } = Memory::new(Part::Frame);
+    show("length of a stream", deepest(|| assert!(y4m::length(SIZE).is_some())));
+    let mut stream = vec![0; y4m::length(SIZE).expect("a size")];
+    show("writing a stream", deepest(|| assert!(y4m::write(SIZE, &luma, &u, &v, &mut stream).is_done())));
+    show("looking at a stream", deepest(|| assert_eq!(y4m::look(&stream), Ok(SIZE))));
+    show("reading a stream", deepest(|| assert_eq!(y4m::read(&stream, &mut luma, &mut u, &mut v), Ok(SIZE))));
 }
 
 fn original() -> usize {

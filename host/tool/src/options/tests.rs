@@ -18,8 +18,13 @@ fn good_lines() {
     assert!(matches!(of("-h"), Ok(Command::Help)));
     assert!(matches!(of("--version"), Ok(Command::Version)));
     assert!(matches!(of("demo"), Ok(Command::Demo { folder }) if folder == OsStr::new("target/demo")));
-    let Ok(Command::Replay { named, order, once }) = of("replay a --order o b --once") else { panic!("refused") };
+    let Ok(Command::Replay { named, order, once, films }) = of("replay a --order o b --once") else {
+        panic!("refused")
+    };
     assert_eq!((named, order, once), (vec!["a".into(), "b".into()], Some("o".into()), true));
+    assert!(films.is_none());
+    let Ok(Command::Replay { films, .. }) = of("replay a --force --y4m f") else { panic!("refused") };
+    assert!(films.is_some_and(|f| f.force && f.folder == OsStr::new("f")));
     let Ok(Command::Compare { files, extent, image }) = of("compare --size 6x4 a b --force --png p") else {
         panic!("refused")
     };
@@ -39,6 +44,7 @@ fn wrong_lines() {
     assert_eq!(said("compare a b --no"), "--no does not belong here");
     assert_eq!(said("compare a"), "two files are wanted, 1 given");
     assert_eq!(said("compare a b --force"), "--force goes with --png");
+    assert_eq!(said("replay a --force"), "--force goes with --y4m");
     assert_eq!(said("replay a --order"), "--order wants a value");
     assert_eq!(said("replay a --order --once"), "--order wants a value");
 }

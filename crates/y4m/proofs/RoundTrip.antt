@@ -13,14 +13,13 @@ use Rattle.laws.proofs.Refusal.{passes, none-applies}
 use Rattle.sizes.specs.Sizes.{badSize, badPlanes}
 use Rattle.sizes.specs.declared.Size.{Size}
 use Rattle.sizes.proofs.Sized.{PlanesFit, planes-fit}
-use Rattle.y4m.specs.Text.{ascii, linesOf, part}
+use Rattle.y4m.specs.Text.{ascii, decimal, linesOf, part}
 use Rattle.y4m.specs.Stream.{header, frameLine, widths, heights, wellFormed, goodHeader, malformed, otherPlanes, pixels, sizeIn, badSides, planesAt, cutShort, count, lumaRead, uRead, vRead, linesFor, streamOf}
 use Rattle.y4m.specs.Calls.{found, ifDone, sizeSaid, macroblocks, readChecks, ReadOutcome, lengthFor, writeChecks, WriteOutcome}
-use Rattle.y4m.specs.Places.{digitCount}
 use Rattle.y4m.specs.declared.Found.{Found}
 use Rattle.y4m.proofs.Decimal.{decimal-is}
 use Rattle.y4m.proofs.Parts.{some-part}
-use Rattle.y4m.proofs.Written.{pixels-of, two-lines-length}
+use Rattle.y4m.proofs.Written.{pieces-length}
 use Rattle.y4m.proofs.WrittenLines.{headerWith, lines-then, widths-of, heights-of, good, ours, lines-of}
 
 -- ---- a picture that is written, and anything behind it
@@ -166,14 +165,13 @@ read-back size luma u v s₀ s₁ rest luma₀ u₀ v₀ luma₁ u₁ v₁ {r} w
       o .v ∙ ap (λ (n : ℕ). ifDone n (vRead (macroblocks s) s) v₀) z ∙ v-is size luma u v rest one fit,
     )
 
--- the length of what is written: the lines, of which the sides have two to four digits, and the planes
+-- the length of what is written: 30 bytes, the digits of the sides, and the planes
 pub written-long : (size : Size) (luma u v : List ℕ) → badSize size ≡ false → PlanesFit (count size) (length luma) (length u) (length v)
     → (length (streamOf size luma u v) ≡ lengthFor size)
-    × (lengthFor size ≡ 30 + digitCount (16 * size .w) + digitCount (16 * size .h) + 384 * count size)
+    × (lengthFor size ≡ 30 + length (decimal (16 * size .w)) + length (decimal (16 * size .h)) + 384 * count size)
 written-long size luma u v one fit =
     let a = length-append (linesFor size ++ luma ++ u) v in
     let b = length-append (linesFor size ++ luma) u in
     let c = length-append (linesFor size) luma in
-    let p = pixels-of size one in
-    let l = two-lines-length (16 * size .w) (16 * size .h) (p .0) (p .1) in
+    let l = pieces-length (16 * size .w) (16 * size .h) in
     (omega arith, omega arith)

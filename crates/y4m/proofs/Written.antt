@@ -20,12 +20,16 @@ pixels-of size e =
     (record { least = omega arith; most = omega arith }, record { least = omega arith; most = omega arith })
 
 -- the five pieces of the two lines
-pub two-lines-length : (w h : ℕ) → Pixels w → Pixels h → length (linesWith w h) ≡ 30 + digitCount w + digitCount h
+pub pieces-length : (w h : ℕ) → length (linesWith w h) ≡ 30 + length (decimal w) + length (decimal h)
 unfolding linesWith
+pieces-length w h = simp length-append (omega arith)
+
+pub two-lines-length : (w h : ℕ) → Pixels w → Pixels h → length (linesWith w h) ≡ 30 + digitCount w + digitCount h
 two-lines-length w h p q =
     let e = decimal-part w (p .least) (p .most) .1 in
     let f = decimal-part h (q .least) (q .most) .1 in
-    simp length-append (omega arith)
+    let l = pieces-length w h in
+    omega arith
 
 -- put one behind the other they are the lines
 pub lines-put : (s : List ℕ) (w h : ℕ) {a b c d e : ℕ} {s₁ s₂ s₃ s₄ s₅ : List ℕ} → Pixels w → Pixels h → 30 + digitCount w + digitCount h ≤ length s

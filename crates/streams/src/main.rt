@@ -1,5 +1,7 @@
 // Reads streams of YUV4MPEG2: some worked out by hand, each with one fault, and those of other programs
 // (README.md). The first argument names raw planes, the others streams whose first picture has those planes.
+ghost use Prim.Native.Nat.{_≤_};
+ghost use lib.ListN.{length};
 use libc::STDOUT_FILENO;
 use sizes::Size;
 use y4m::reader::look;
@@ -114,7 +116,9 @@ fn size(stream: &[u8]) {
 }
 
 // Reads argument i into s, and answers how many bytes that were.
-fn load(i: usize, s: &mut [u8]) -> usize {
+fn load(i: usize, s: &mut [u8]) -> usize
+    ensures { λ r. ⌜ r ≤ length (now (s .entry)) ⌝ }
+{
     let mut name = io::buffer();
     let length = os::arg(i, &mut name);
     let fd = os::open_read(&name[..length]);
@@ -131,10 +135,8 @@ fn load(i: usize, s: &mut [u8]) -> usize {
 fn argument(i: usize, raw: &[u8]) {
     let mut stream = io::large_buffer();
     let k = load(i, &mut stream);
-    if k <= 65536 {
-        size(&stream[0..k]);
-        picture(&stream[0..k], raw);
-    }
+    size(&stream[0..k]);
+    picture(&stream[0..k], raw);
 }
 
 fn arguments(raw: &[u8]) {

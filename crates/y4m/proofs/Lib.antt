@@ -1,4 +1,3 @@
-pub mod Sides
 pub mod Copied
 pub mod Cut
 pub mod Decimal
@@ -6,10 +5,11 @@ pub mod Ends
 pub mod Examples
 pub mod Outcomes
 pub mod Parts
-pub mod Seen
 pub mod Refused
 pub mod RoundTrip
 pub mod Same
+pub mod Seen
+pub mod Sides
 pub mod Tags
 pub mod Values
 pub mod Written

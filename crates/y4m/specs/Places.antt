@@ -1,5 +1,5 @@
--- Apart: no promise to a caller rests on it, but what functions inside the crate say. Text by the places of
--- its bytes.
+-- Apart: no promise to a caller rests on it, but what functions inside the crate ask and promise: text by the
+-- places of its bytes, the checks group by group, a stream that is being written.
 use Prim.Native.Nat.{ℕ, _+_, _*_, _-_, _/_, _%_, _<_, _≤_}
 use mathlib.Core.Path.{_≡_}
 use mathlib.Core.Bool.{Bool, cond, not, _&&_, _||_}

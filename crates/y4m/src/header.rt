@@ -19,7 +19,7 @@ use sizes::bad_size;
 fn well_formed(line: &[u8], first: &[u8]) -> bool
     ensures { λ r. ⌜ r ≡ wellFormed (now (first .entry)) (now (line .entry)) ⌝ }
 {
-    let e = end_of(line, 0, 32);
+    let e = end_of(line, 0, b' ');
     same(&line[..e], first) & !has_gap(line)
 }
 
@@ -55,9 +55,9 @@ fn bad_header(line: &[u8]) -> bool
     ensures { λ r. ⌜ r ≡ not (goodHeader (now (line .entry))) ⌝ }
 {
     let start = well_formed(line, b"YUV4MPEG2");
-    let w = one_number(line, 87);
-    let h = one_number(line, 72);
-    let c = tagged(line, 67);
+    let w = one_number(line, b'W');
+    let h = one_number(line, b'H');
+    let c = tagged(line, b'C');
     !(start & w & h & (c.times <= 1))
 }
 
@@ -66,7 +66,7 @@ fn other_planes(line: &[u8]) -> bool
     requires { ⌜ leb (length (colours (now line))) 1 ≡ true ⌝ }
     ensures { λ r. ⌜ r ≡ otherPlanes (now (line .entry)) ⌝ }
 {
-    let c = tagged(line, 67);
+    let c = tagged(line, b'C');
     if c.times == 0 {
         return false;
     }
@@ -79,8 +79,8 @@ fn other_planes(line: &[u8]) -> bool
 fn bad_sides(line: &[u8]) -> bool
     ensures { λ r. ⌜ r ≡ badSides (now (line .entry)) ⌝ }
 {
-    let w = side(line, 87);
-    let h = side(line, 72);
+    let w = side(line, b'W');
+    let h = side(line, b'H');
     let size = Size {
         w: w / 16,
         h: h / 16,

@@ -24,14 +24,14 @@ struct Ends {
 fn ends_of(stream: &[u8]) -> Ends
     ensures { λ r. ⌜ LinesIn (now (stream .entry)) (r .first) (r .second) ⌝ }
 {
-    let first = end_of(stream, 0, 10);
+    let first = end_of(stream, 0, b'\n');
     if stream.len() <= first {
         return Ends {
             first,
             second: first,
         };
     }
-    let second = end_of(stream, first + 1, 10);
+    let second = end_of(stream, first + 1, b'\n');
     Ends { first, second }
 }
 
@@ -42,8 +42,8 @@ fn size_in(line: &[u8]) -> Size
     ensures { λ r. ⌜ r ≡ sizeIn (now (line .entry)) ⌝ }
 {
     Size {
-        w: side(line, 87) / 16,
-        h: side(line, 72) / 16,
+        w: side(line, b'W') / 16,
+        h: side(line, b'H') / 16,
     }
 }
 

@@ -23,7 +23,7 @@ fn next_tag(line: &[u8], t: u8, from: usize) -> usize
 {
     let mut i = from;
     while i < line.len() {
-        if (line[i] == t) & (line[i - 1] == 32) {
+        if (line[i] == t) & (line[i - 1] == b' ') {
             return i;
         }
         i += 1;
@@ -52,7 +52,7 @@ pub fn tagged(line: &[u8], t: u8) -> Tags
         };
     }
     let from = i + 1;
-    let to = end_of(line, from, 32);
+    let to = end_of(line, from, b' ');
     if next_tag(line, t, from) < line.len() {
         return Tags { times: 2, from, to };
     }
@@ -63,20 +63,20 @@ pub fn tagged(line: &[u8], t: u8) -> Tags
 pub fn has_gap(line: &[u8]) -> bool
     ensures { λ r. ⌜ r ≡ not (all isFull (wordsOf (now (line .entry)))) ⌝ }
 {
-    let mut before: u8 = 32;
+    let mut before = b' ';
     for i in 0..line.len() {
-        if (before == 32) & (line[i] == 32) {
+        if (before == b' ') & (line[i] == b' ') {
             return true;
         }
         before = line[i];
     }
-    before == 32
+    before == b' '
 }
 
 fn is_digit(b: u8) -> bool
     ensures { λ r. ⌜ r ≡ isDigit b ⌝ }
 {
-    (48 <= b) & (b <= 57)
+    (b'0' <= b) & (b <= b'9')
 }
 
 pub fn is_decimal(s: &[u8]) -> bool
@@ -94,10 +94,10 @@ fn digit(d: u8) -> usize
     ensures { λ r. ⌜ r ≤ 207 ⌝ }
     ensures { λ r. ⌜ r ≡ d - 48 ⌝ }
 {
-    if d < 48 {
+    if d < b'0' {
         return 0;
     }
-    (d - 48) as usize
+    (d - b'0') as usize
 }
 
 // A number n and one digit more.

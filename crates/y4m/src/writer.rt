@@ -59,7 +59,7 @@ fn put(stream: &mut [u8], at: usize, text: &[u8]) -> usize
 fn digit(n: usize) -> u8
     ensures { λ r. ⌜ r ≡ digitOf n ⌝ }
 {
-    48 + (n % 10) as u8
+    b'0' + (n % 10) as u8
 }
 
 // The last four digits, zeros in front.

@@ -2,6 +2,8 @@
 use borrow.Author.Needs.{needs}
 use mathlib.Core.Path.{_≡_, refl, sym, ap, _∙_}
 use mathlib.Core.Bool.{Bool, true, false, not, _&&_}
+use mathlib.Core.List.{List}
+use Prim.Native.Nat.{ℕ}
 use lib.Dec.{leb}
 use lib.ListN.{length}
 use Rattle.laws.proofs.Bools.{and-true}
@@ -25,6 +27,14 @@ none-bad : (a b : Bool) → not a ≡ false → not b ≡ false → not (a && b)
 none-bad true b e h = h
 none-bad false b e h = let z : true ≡ false = e in cc
 
+-- the same of the answers that the two tests gave
+module _ (l f : List ℕ) {a b : Bool} (p : a ≡ not (goodHeader l)) (q : b ≡ wellFormed (ascii "FRAME") f) where
+  both-good : a ≡ false → not b ≡ false → not (goodHeader l && wellFormed (ascii "FRAME") f) ≡ false
+  both-good e h = none-bad (goodHeader l) (wellFormed (ascii "FRAME") f) (sym p ∙ e) (ap not (sym q) ∙ h)
+
+  frame-bad : a ≡ false → not b ≡ true → not (goodHeader l && wellFormed (ascii "FRAME") f) ≡ true
+  frame-bad e h = second-bad (goodHeader l) (wellFormed (ascii "FRAME") f) (sym p ∙ e) (ap not (sym q) ∙ h)
+
 returns : tie.Need-returns
 returns c =
     let a = c .before .before .before .before .args in
@@ -35,9 +45,7 @@ returns-2 c =
     let q = c .before .before .before .before in
     let a = q .before .before .before .args in
     stop 15 _
-    (second-bad (goodHeader (a .line .now)) (wellFormed (ascii "FRAME") (a .frame .now))
-    (sym (q .bad-header .ensures) ∙ c .before .before .before .if1 .left)
-    (ap not (sym (c .before .well-formed .ensures)) ∙ c .if2 .taken))
+    (frame-bad (a .line .now) (a .frame .now) (q .bad-header .ensures) (c .before .well-formed .ensures) (c .before .before .before .if1 .left) (c .if2 .taken))
 
 other-planes-requires : tie.Need-other-planes-requires
 other-planes-requires c κs =
@@ -53,9 +61,7 @@ returns-3 c =
     let q = r .before .before .before .before in
     let a = q .before .before .before .args in
     skip 15
-    (none-bad (goodHeader (a .line .now)) (wellFormed (ascii "FRAME") (a .frame .now))
-    (sym (q .bad-header .ensures) ∙ r .before .before .before .if1 .left)
-    (ap not (sym (r .before .well-formed .ensures)) ∙ r .if2 .left))
+    (both-good (a .line .now) (a .frame .now) (q .bad-header .ensures) (r .before .well-formed .ensures) (r .before .before .before .if1 .left) (r .if2 .left))
     (stop 16 _ (sym (c .before .other-planes .ensures) ∙ c .if3 .taken))
 
 returns-4 : tie.Need-returns-4
@@ -65,9 +71,7 @@ returns-4 c =
     let q = r .before .before .before .before in
     let a = q .before .before .before .args in
     skip 15
-    (none-bad (goodHeader (a .line .now)) (wellFormed (ascii "FRAME") (a .frame .now))
-    (sym (q .bad-header .ensures) ∙ r .before .before .before .if1 .left)
-    (ap not (sym (r .before .well-formed .ensures)) ∙ r .if2 .left))
+    (both-good (a .line .now) (a .frame .now) (q .bad-header .ensures) (r .before .well-formed .ensures) (r .before .before .before .if1 .left) (r .if2 .left))
     (skip 16 (sym (p .before .other-planes .ensures) ∙ p .if3 .left) (stop 17 _ (sym (c .before .bad-sides .ensures) ∙ c .if4 .taken)))
 
 returns-5 : tie.Need-returns-5
@@ -77,9 +81,7 @@ returns-5 c =
     let q = r .before .before .before .before in
     let a = q .before .before .before .args in
     skip 15
-    (none-bad (goodHeader (a .line .now)) (wellFormed (ascii "FRAME") (a .frame .now))
-    (sym (q .bad-header .ensures) ∙ r .before .before .before .if1 .left)
-    (ap not (sym (r .before .well-formed .ensures)) ∙ r .if2 .left))
+    (both-good (a .line .now) (a .frame .now) (q .bad-header .ensures) (r .before .well-formed .ensures) (r .before .before .before .if1 .left) (r .if2 .left))
     (skip 16 (sym (p .before .other-planes .ensures) ∙ p .if3 .left) (skip 17 (sym (c .before .bad-sides .ensures) ∙ c .if4 .left) refl))
 
 pub refuse-lines-spec : {M : Type 1} → statement M

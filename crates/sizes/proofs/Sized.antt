@@ -5,7 +5,7 @@ use mathlib.Core.Bool.{false, not, _||_}
 use Prim.Native.Nat.{ℕ, _*_, _≤_, _<_}
 use native.Mathlib.Nat.{mul-le-mul}
 use native.Mathlib.Omega.{arith}
-use borrow.Author.Tests.{eqb-false, ltb-false}
+use borrow.Author.Tests.{eq-eqb, eqb-false, ltb-false}
 use lib.Dec.{eqb, ltb}
 use Rattle.laws.proofs.Bools.{or-false, equal}
 use Rattle.sizes.specs.Sizes.{badSize, badPlanes, frameOfPart}
@@ -61,6 +61,10 @@ planes-fit n luma u v e =
     let p = or-false (not (eqb luma (256 * n)) || not (eqb u (64 * n))) (not (eqb v (64 * n))) e in
     let q = or-false (not (eqb luma (256 * n))) (not (eqb u (64 * n))) (p .0) in
     record { luma-is = equal luma (256 * n) (q .0); u-is = equal u (64 * n) (q .1); v-is = equal v (64 * n) (p .1) }
+
+-- .. and planes that have them are not refused
+pub fits-planes : {n luma u v : ℕ} → PlanesFit n luma u v → badPlanes n luma u v ≡ false
+fits-planes {n} {luma} {u} {v} f = rw (eq-eqb luma (256 * n) (f .luma-is), eq-eqb u (64 * n) (f .u-is), eq-eqb v (64 * n) (f .v-is))
 
 -- the planes of a part's frame: at most two pictures
 pub frame-most : (part : Part) {n : ℕ} → n ≤ 36864 → frameOfPart part n ≤ 73728

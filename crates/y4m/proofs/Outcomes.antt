@@ -11,7 +11,8 @@ use Rattle.laws.specs.Refusal.{refusal}
 use Rattle.laws.proofs.Refusal.{first-applies, first-passed, stop, skip}
 use Rattle.sizes.specs.Sizes.{badPlanes}
 use Rattle.sizes.specs.declared.Size.{Size}
-use Rattle.y4m.specs.Calls.{ReadOutcome, WriteOutcome, ifDone, found, sizeSaid, macroblocks, streamChecks, readChecks}
+use Rattle.sizes.proofs.Sized.{PlanesFit, fits-planes}
+use Rattle.y4m.specs.Calls.{LookOutcome, ReadOutcome, WriteOutcome, ifDone, found, sizeSaid, macroblocks, streamChecks, readChecks}
 use Rattle.y4m.specs.Stream.{count, planesAt, lumaRead, uRead, vRead, streamOf}
 use Rattle.y4m.specs.Places.{SeenIn}
 use Rattle.y4m.specs.declared.Found.{Found}
@@ -85,3 +86,16 @@ pub one-write : {size : Size} {luma u v s s₁ s₂ : List ℕ} {n m : ℕ} → 
 one-write {size} {luma} {u} {v} {s} a b =
     let e = a .answer ∙ sym (b .answer) in
     (e, a .stream ∙ ap (λ (k : ℕ). ifDone k (streamOf size luma u v) s) e ∙ sym (b .stream))
+
+-- ---- what was looked at can be read: into planes of the size that was told the reader answers the same
+pub look-then-read : (s luma u v : List ℕ) {luma₁ u₁ v₁ : List ℕ} {l r : Found} → LookOutcome s l → l .number ≡ 0
+    → PlanesFit (l .w * l .h) (length luma) (length u) (length v)
+    → ReadOutcome s luma u v r luma₁ u₁ v₁ → r ≡ l
+look-then-read s luma u v {l} {r} h z fit o =
+    let n : refusal (streamChecks s) ≡ 0 = sym (ap (λ (f : Found). f .number) h) ∙ z in
+    let e : l ≡ found 0 (sizeSaid s) = h ∙ ap (λ (k : ℕ). found k (sizeSaid s)) n in
+    let c : l .w * l .h ≡ macroblocks s = ap (λ (f : Found). f .w * f .h) e in
+    let three : badPlanes (macroblocks s) (length luma) (length u) (length v) ≡ false =
+    ap (λ (k : ℕ). badPlanes k (length luma) (length u) (length v)) (sym c) ∙ fits-planes fit in
+    let q = first-passed (streamChecks s) ((3, badPlanes (macroblocks s) (length luma) (length u) (length v)) ∷ []) tt n (skip 3 three refl) in
+    o .answer ∙ ap (λ (k : ℕ). found k (sizeSaid s)) (sym q) ∙ sym e

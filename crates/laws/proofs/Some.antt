@@ -9,7 +9,7 @@ use native.Mathlib.Numerals.{add-one}
 use native.Mathlib.Omega.{arith}
 use borrow.Author.Needs.{needs}
 use Rattle.laws.specs.Some.{some, every}
-use Rattle.laws.proofs.Bools.{and-true}
+use Rattle.laws.proofs.Bools.{and-true, or-always}
 
 pub some-none : (f : ℕ → Bool) → false ≡ some 0 f
 unfolding some
@@ -33,17 +33,13 @@ every-more n f p q = rw add-one (q ∙ ap (λ (t : Bool). t && f n) p)
 pub every-end : (n m : ℕ) (f : ℕ → Bool) {a : Bool} → a ≡ every n f → n ≤ m → m ≤ n → a ≡ every m f
 every-end n m f p h k = rw (le-antisymm h k) at p
 
-or-true : (t : Bool) → (t || true) ≡ true
-or-true true = refl
-or-true false = refl
-
 -- found
 pub some-hit : (n i : ℕ) (f : ℕ → Bool) → i < n → f i ≡ true → some n f ≡ true
 unfolding some
 some-hit zero i f h p = absurd (not-suc-le-zero h)
 some-hit (suc n) i f h p =
     ⊎-elim
-    (λ e. let q : f n ≡ true = ap f (sym e) ∙ p in rw q (or-true (some n f)))
+    (λ e. let q : f n ≡ true = ap f (sym e) ∙ p in rw q (or-always (some n f)))
     (λ l. let q : some n f ≡ true = some-hit n i f l p in rw q)
     (eq-or-lt-of-le (le-of-suc-le-suc h))
 

@@ -9,13 +9,10 @@ use Rattle.laws.proofs.Grid.{row-pos}
 use Rattle.laws.proofs.Ints.{le-or-lt}
 use Rattle.strengths.specs.Blocks.{ownBlock}
 use Rattle.strengths.specs.Strength.{vertical, edge, segment, qBlock, border, skipped}
-use Rattle.laws.proofs.Bools.{or-false}
+use Rattle.laws.proofs.Bools.{or-false, true-false}
 
 not-both : (a b : ℕ) → (eqb a 0 && eqb b 0) ≡ false → 0 < a + b
-not-both zero zero e = let size : true ≡ false = e in absurd (no size)
-  where
-    no : true ≡ false → ⊥
-    no size = let k : _≡_ {A = ℕ} 0 1 = cc in omega arith
+not-both zero zero e = absurd (true-false e)
 not-both zero (suc b) e = omega arith
 not-both (suc a) b e = omega arith
 

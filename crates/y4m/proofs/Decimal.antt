@@ -1,24 +1,17 @@
 -- Laws of numbers written in decimal. Assumes nothing.
 use Prim.Native.Nat.{ℕ, zero, suc, _+_, _*_, _-_, _/_, _%_, _<_, _≤_}
 use mathlib.Core.Path.{_≡_, refl, sym, ap, _∙_}
-use mathlib.Core.Bool.{Bool, true, false}
+use mathlib.Core.Bool.{Bool, true}
 use mathlib.Core.List.{List, [], _∷_, _++_}
-use mathlib.Core.Logic.{⊎-elim, _⊎_, inl, inr}
-use borrow.Author.Tests.{ltb-true, ltb-false, lt-ltb, le-ltb, le-leb}
+use mathlib.Core.Logic.{⊎-elim, _⊎_}
+use borrow.Author.Tests.{lt-ltb, le-ltb, le-leb}
 use native.Mathlib.Omega.{arith}
-use lib.Dec.{ltb}
 use Rattle.laws.proofs.Bools.{and-true}
+use Rattle.laws.proofs.Ints.{le-or-lt}
 use lib.ListN.{length, take, drop, length-append, length-drop}
 use lib.Seq.{take-all}
 use Rattle.y4m.specs.Text.{digitsIn, decimal, isDigit, all, valueFrom, valueOf}
 use Rattle.y4m.specs.Places.{digitCount, digitOf, fourDigits}
-
-one-or-more : (n k : ℕ) → (n < k) ⊎ (k ≤ n)
-one-or-more n k = go (ltb n k) refl
-  where
-    go : (b : Bool) → ltb n k ≡ b → (n < k) ⊎ (k ≤ n)
-    go true e = inl (ltb-true n k e)
-    go false e = inr (ltb-false n k e)
 
 -- ---- one digit, or one more
 small : (k n : ℕ) → n < 10 → digitsIn k n ≡ (48 + n) ∷ []
@@ -36,12 +29,12 @@ enough zero m n h l = small zero n (omega arith) ∙ sym (small m n (omega arith
 enough (suc k) zero n h l = small (suc k) n (omega arith) ∙ sym (small zero n (omega arith))
 enough (suc k) (suc m) n h l =
     ⊎-elim
-    (λ s. small (suc k) n s ∙ sym (small (suc m) n s))
     (λ s.
     large k n s
     ∙ ap (λ (ds : List ℕ). ds ++ ((48 + n % 10) ∷ [])) (enough k m (n / 10) (omega arith) (omega arith))
     ∙ sym (large m n s))
-    (one-or-more n 10)
+    (λ s. small (suc k) n s ∙ sym (small (suc m) n s))
+    (le-or-lt 10 n)
 
 pub decimal-one : (n : ℕ) → n < 10 → decimal n ≡ (48 + n) ∷ []
 decimal-one n h = small n n h
@@ -94,9 +87,9 @@ decimal-in : (k n : ℕ) → n ≤ k → Decimal n (digitsIn k n)
 decimal-in zero n h = one-digit zero n (omega arith)
 decimal-in (suc k) n h =
     ⊎-elim
-    (λ s. one-digit (suc k) n s)
     (λ s. more-digits k n s (decimal-in k (n / 10) (omega arith)))
-    (one-or-more n 10)
+    (λ s. one-digit (suc k) n s)
+    (le-or-lt 10 n)
 
 pub decimal-is : (n : ℕ) → Decimal n (decimal n)
 decimal-is n = decimal-in n n (omega arith)
@@ -116,7 +109,7 @@ decimal-four n h l =
     decimal-more n (omega arith) ∙ ap (λ (ds : List ℕ). ds ++ (digitOf n ∷ [])) (decimal-three (n / 10) (omega arith) (omega arith))
 
 pub decimal-part : (n : ℕ) → 10 ≤ n → n < 10000 → (drop (4 - digitCount n) (fourDigits n) ≡ decimal n) × (digitCount n ≡ length (decimal n))
-decimal-part n h l = ⊎-elim two (λ k. ⊎-elim (three k) (four k) (one-or-more n 1000)) (one-or-more n 100)
+decimal-part n h l = ⊎-elim (λ k. ⊎-elim (four k) (three k) (le-or-lt 1000 n)) two (le-or-lt 100 n)
   where
     two : n < 100 → (drop (4 - digitCount n) (fourDigits n) ≡ decimal n) × (digitCount n ≡ length (decimal n))
     two k = let e = decimal-two n h k in let t = lt-ltb n 100 k in (rw t (sym e), rw t (ap length (sym e)))

@@ -1,7 +1,7 @@
 -- Texts compared: the kit's test of equality is `sameText`. Assumes nothing.
 use Prim.Native.Nat.{ℕ}
 use mathlib.Core.Path.{_≡_, refl, sym, ap, _∙_}
-use mathlib.Core.Bool.{Bool, true, false, not}
+use mathlib.Core.Bool.{Bool, true, false}
 use mathlib.Core.List.{List, [], _∷_}
 use borrow.Author.Tests.{eq-eqb, eqb-true}
 use lib.Dec.{eqb}
@@ -30,7 +30,3 @@ by-same false a b f = go (sameText a b) refl
     go : (s : Bool) → sameText a b ≡ s → false ≡ s
     go true e = f .1 (same-equal a b e)
     go false e = refl
-
-pub not-not : (b : Bool) → not (not b) ≡ b
-not-not true = refl
-not-not false = refl

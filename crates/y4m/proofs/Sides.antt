@@ -9,10 +9,12 @@ use native.Mathlib.Nat.{div-add-mod'}
 use native.Mathlib.Omega.{arith}
 use lib.Dec.{eqb, ltb, leb}
 use lib.ListN.{length}
+use Rattle.laws.proofs.Bools.{or-always, true-false}
+use Rattle.laws.proofs.Ints.{le-or-lt}
 use Rattle.sizes.specs.Sizes.{badSize}
 use Rattle.y4m.specs.Text.{part, all}
 use Rattle.y4m.specs.Places.{TaggedBy, capped}
-use Rattle.y4m.proofs.Values.{capped-small, capped-large, small-or-large}
+use Rattle.y4m.proofs.Values.{capped-small, capped-large}
 
 -- ---- counts: 0, 1 and more are told apart
 often-is : (vs : List (List ℕ)) {k : ℕ} → k ≡ cond (ltb (length vs) 2) (length vs) 2
@@ -49,18 +51,11 @@ all-one p (v ∷ []) e h = and-one (p v)
     and-one : (b : Bool) → (b && true) ≡ b
     and-one true = refl
     and-one false = refl
-all-one p (v ∷ w ∷ vs) e h = let z : true ≡ false = sym h ∙ lt-leb (suc (suc (length vs))) 1 (omega arith) in absurd (contrary z)
-  where
-    contrary : true ≡ false → ⊥
-    contrary z = let o : _≡_ {A = ℕ} 0 1 = cc in omega arith
+all-one p (v ∷ w ∷ vs) e h = let z : true ≡ false = sym h ∙ lt-leb (suc (suc (length vs))) 1 (omega arith) in absurd (true-false z)
 
 -- ---- sides: a number that is cut off is refused, as it would be
 abbrev badTwo : ℕ → ℕ → Bool
 badTwo n m = not (eqb (n % 16) 0) || not (eqb (m % 16) 0) || badSize (record { w = n / 16; h = m / 16 })
-
-or-right : (a : Bool) → (a || true) ≡ true
-or-right true = refl
-or-right false = refl
 
 -- a multiple of 16 above 4096 has more than 256 macroblocks
 wide : (n : ℕ) → 4097 ≤ n → eqb (n % 16) 0 ≡ true → ltb 256 (n / 16) ≡ true
@@ -73,7 +68,7 @@ wide-bad : (n m : ℕ) → 4097 ≤ n → badTwo n m ≡ true
 wide-bad n m h = go (eqb (n % 16) 0) refl
   where
     go : (b : Bool) → eqb (n % 16) 0 ≡ b → badTwo n m ≡ true
-    go true e = rw (wide n h e, or-right (eqb (n / 16) 0)) (or-right (not (eqb (n % 16) 0) || not (eqb (m % 16) 0)))
+    go true e = rw (wide n h e, or-always (eqb (n / 16) 0)) (or-always (not (eqb (n % 16) 0) || not (eqb (m % 16) 0)))
     go false e = rw e
 
 high-bad : (n m : ℕ) → 4097 ≤ m → badTwo n m ≡ true
@@ -81,26 +76,23 @@ high-bad n m h = go (eqb (m % 16) 0) refl
   where
     go : (b : Bool) → eqb (m % 16) 0 ≡ b → badTwo n m ≡ true
     go true e =
-        rw (wide m h e, or-right (eqb (n / 16) 0 || ltb 256 (n / 16) || eqb (m / 16) 0)) (or-right (not (eqb (n % 16) 0) || not (eqb (m % 16) 0)))
-    go false e = rw (e, or-right (not (eqb (n % 16) 0)))
+        rw (wide m h e, or-always (eqb (n / 16) 0 || ltb 256 (n / 16) || eqb (m / 16) 0)) (or-always (not (eqb (n % 16) 0) || not (eqb (m % 16) 0)))
+    go false e = rw (e, or-always (not (eqb (n % 16) 0)))
 
 pub sides-capped : (n m : ℕ) → badTwo (capped n) (capped m) ≡ badTwo n m
 sides-capped n m =
     ⊎-elim
+    (λ h. ap (λ (k : ℕ). badTwo k (capped m)) (capped-large n h) ∙ wide-bad 4097 (capped m) (omega arith) ∙ sym (wide-bad n m h))
     (λ h.
     ⊎-elim
-    (λ k. rw (capped-small n h, capped-small m k))
     (λ k. ap (badTwo (capped n)) (capped-large m k) ∙ high-bad (capped n) 4097 (omega arith) ∙ sym (high-bad n m k))
-    (small-or-large m))
-    (λ h. ap (λ (k : ℕ). badTwo k (capped m)) (capped-large n h) ∙ wide-bad 4097 (capped m) (omega arith) ∙ sym (wide-bad n m h))
-    (small-or-large n)
+    (λ k. rw (capped-small n h, capped-small m k))
+    (le-or-lt 4097 m))
+    (le-or-lt 4097 n)
 
 -- sides that are not refused were not cut off
 pub sides-true : (n m : ℕ) → badTwo n m ≡ false → (capped n ≡ n) × (capped m ≡ m)
 sides-true n m e = (
-  ⊎-elim (capped-small n) (λ h. absurd (contrary (sym (wide-bad n m h) ∙ e))) (small-or-large n),
-  ⊎-elim (capped-small m) (λ h. absurd (contrary (sym (high-bad n m h) ∙ e))) (small-or-large m),
+  ⊎-elim (λ h. absurd (true-false (sym (wide-bad n m h) ∙ e))) (capped-small n) (le-or-lt 4097 n),
+  ⊎-elim (λ h. absurd (true-false (sym (high-bad n m h) ∙ e))) (capped-small m) (le-or-lt 4097 m),
 )
-  where
-    contrary : true ≡ false → ⊥
-    contrary z = let o : _≡_ {A = ℕ} 0 1 = cc in omega arith

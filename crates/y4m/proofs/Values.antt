@@ -1,15 +1,16 @@
 -- Laws of numbers in decimal, with what is too large cut off. Assumes nothing.
 use Prim.Native.Nat.{ℕ, suc, _+_, _*_, _-_, _<_, _≤_}
 use mathlib.Core.Path.{_≡_, refl, sym, ap, _∙_}
-use mathlib.Core.Bool.{Bool, true, false, not, _&&_}
+use mathlib.Core.Bool.{true, false, not, _&&_}
 use mathlib.Core.List.{List, [], _∷_}
-use mathlib.Core.Logic.{⊎-elim, _⊎_, inl, inr}
-use borrow.Author.Tests.{ltb-true, ltb-false, lt-ltb, le-ltb, ne-eqb}
+use mathlib.Core.Logic.{⊎-elim, _⊎_}
+use borrow.Author.Tests.{lt-ltb, le-ltb, ne-eqb}
 use native.Mathlib.Omega.{arith}
 use native.Mathlib.Numerals.{add-one}
-use lib.Dec.{eqb, ltb}
+use lib.Dec.{eqb}
 use lib.ListN.{length, getD, drop, drop-of-length-le}
 use lib.Seq.{drop-cons}
+use Rattle.laws.proofs.Ints.{le-or-lt}
 use Rattle.y4m.specs.Text.{valueFrom, all, isDigit, isDecimal}
 use Rattle.y4m.specs.Places.{capped}
 
@@ -24,29 +25,19 @@ capped-small n h = rw (lt-ltb n 4097 h)
 pub capped-large : (n : ℕ) → 4097 ≤ n → capped n ≡ 4097
 capped-large n h = rw (le-ltb n 4097 h)
 
-pub small-or-large : (n : ℕ) → (n < 4097) ⊎ (4097 ≤ n)
-small-or-large n = go (ltb n 4097) refl
-  where
-    go : (b : Bool) → ltb n 4097 ≡ b → (n < 4097) ⊎ (4097 ≤ n)
-    go true e = inl (ltb-true n 4097 e)
-    go false e = inr (ltb-false n 4097 e)
-
-pub capped-most : (n : ℕ) → capped n ≤ 4097
-capped-most n = ⊎-elim (λ h. rw (capped-small n h) (omega arith)) (λ h. rw (capped-large n h) (omega arith)) (small-or-large n)
-
 capped-within : (n : ℕ) → n ≤ 4097 → capped n ≡ n
-capped-within n k = ⊎-elim (λ h. capped-small n h) (λ h. capped-large n h ∙ omega arith) (small-or-large n)
+capped-within n k = ⊎-elim (λ h. capped-large n h ∙ omega arith) (λ h. capped-small n h) (le-or-lt 4097 n)
 
 -- a number may be cut off before its last digits are read
 pub capped-from : (n : ℕ) (l : List ℕ) → capped (valueFrom (capped n) l) ≡ capped (valueFrom n l)
 capped-from n l =
     ⊎-elim
-    (λ h. ap (λ (m : ℕ). capped (valueFrom m l)) (capped-small n h))
     (λ h.
     ap (λ (m : ℕ). capped (valueFrom m l)) (capped-large n h)
     ∙ capped-large (valueFrom 4097 l) (value-grows 4097 l)
     ∙ sym (capped-large (valueFrom n l) (let k = value-grows n l in omega arith)))
-    (small-or-large n)
+    (λ h. ap (λ (m : ℕ). capped (valueFrom m l)) (capped-small n h))
+    (le-or-lt 4097 n)
 
 -- ---- one digit more
 pub value-turn : (n : ℕ) (l : List ℕ) (i : ℕ) → i < length l

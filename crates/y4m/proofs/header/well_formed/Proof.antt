@@ -7,9 +7,10 @@ use mathlib.Core.List.{List}
 use native.Mathlib.Nat.{zero-add}
 use lib.ListN.{length, take}
 use lib.Seq.{length-take-le}
+use Rattle.laws.proofs.Bools.{not-not}
 use Rattle.y4m.specs.Text.{part, wordsOf, sameText, isFull, all}
 use Rattle.y4m.proofs.Parts.{first-taken}
-use Rattle.y4m.proofs.Same.{by-same, not-not}
+use Rattle.y4m.proofs.Same.{by-same}
 use Rattle.y4m.proofs.header.well_formed.Statement.{statement}
 use Rattle.y4m.proofs.header.well_formed.Tie as tie
 

@@ -20,13 +20,6 @@ parts-cut b (x ∷ xs) c e =
     let t = and-true (not (eqb x b)) (free b xs) e in
     rw (not-true (eqb x b) (t .0)) (ap (onFirst x) (parts-cut b xs c (t .1)))
 
--- or at the end
-pub parts-last : (b : ℕ) (a : List ℕ) → free b a ≡ true → parts b a ≡ a ∷ []
-parts-last b [] e = refl
-parts-last b (x ∷ xs) e =
-    let t = and-true (not (eqb x b)) (free b xs) e in
-    rw (not-true (eqb x b) (t .0)) (ap (onFirst x) (parts-last b xs (t .1)))
-
 pub free-both : (b : ℕ) (a c : List ℕ) → free b a ≡ true → free b c ≡ true → free b (a ++ c) ≡ true
 free-both b [] c e f = f
 free-both b (x ∷ xs) c e f = let t = and-true (not (eqb x b)) (free b xs) e in rw (t .0) (free-both b xs c (t .1) f)

@@ -41,15 +41,6 @@ first-index b (x ∷ xs) = go (eqb x b) (parts b xs) (first-rest b xs) (first-in
     go false ps h k = ap suc k ∙ sym (ap (λ (qs : List (List ℕ)). length (part 0 qs)) (first-grows x ps h))
 
 -- it is the beginning of the text
-pub first-most : (b : ℕ) (l : List ℕ) → length (part 0 (parts b l)) ≤ length l
-first-most b [] = omega arith
-first-most b (x ∷ xs) = go (eqb x b) (parts b xs) (first-rest b xs) (first-most b xs)
-  where
-    go : (e : Bool) (ps : List (List ℕ)) → ps ≡ part 0 ps ∷ drop 1 ps → length (part 0 ps) ≤ length xs
-        → length (part 0 (cond e ([] ∷ ps) (onFirst x ps))) ≤ suc (length xs)
-    go true ps h k = omega arith
-    go false ps h k = rw (first-grows x ps h) (omega arith)
-
 pub first-taken : (b : ℕ) (l : List ℕ) → take (length (part 0 (parts b l))) l ≡ part 0 (parts b l)
 first-taken b [] = refl
 first-taken b (x ∷ xs) = go (eqb x b) (parts b xs) (first-rest b xs) (first-taken b xs)

@@ -19,15 +19,18 @@ const LINES: [(&[u8], usize, usize); 7] = [
 
 const SHORT: &[u8] = b"YUV4MPEG2 H16 W16\nFRAME\n";
 
+/// Films of other programs (crates/streams/README.md), all of 3 by 2 macroblocks.
+const FILES: [&[u8]; 2] = [
+    include_bytes!("../../../../crates/streams/data/ffmpeg.y4m"),
+    include_bytes!("../../../../crates/streams/data/mjpegtools.y4m"),
+];
+
 /// Bytes that mean something in a stream, and their neighbours.
 const TELLING: [u8; 24] = *b"\0\x09\x0A\x0B\x0D\x1F\x20\x21/0123456789:WHC\xFF";
 
 pub fn run(s: &mut Session) -> Outcome {
     shortest(s)?;
-    for (i, (lines, w, h)) in LINES.into_iter().enumerate() {
-        let after: &[u8] = if i % 2 == 0 { &[] } else { SECOND };
-        let samples: Vec<u8> = (0..384 * w * h).map(|k| (k * 7 + k / 256 + i) as u8).collect();
-        let good = Good { stream: [lines, &samples, after].concat(), lines: lines.len(), lengths: lengths(w, h) };
+    for good in (0..LINES.len()).map(Good::made).chain(FILES.map(Good::file)) {
         good.cut(s)?;
         good.bytes_changed(s)?;
         good.bytes_moved(s)?;
@@ -49,14 +52,30 @@ fn shortest(s: &mut Session) -> Outcome {
 
 /// A good stream, of which so many bytes are its lines.
 struct Good {
+    run: &'static str,
     stream: Vec<u8>,
     lines: usize,
     lengths: [usize; 3],
 }
 
 impl Good {
+    fn made(i: usize) -> Good {
+        let (lines, w, h) = LINES[i];
+        let after: &[u8] = if i.is_multiple_of(2) { &[] } else { SECOND };
+        let samples: Vec<u8> = (0..384 * w * h).map(|k| (k * 7 + k / 256 + i) as u8).collect();
+        let stream = [lines, &samples, after].concat();
+        Good { run: "edits", stream, lines: lines.len(), lengths: lengths(w, h) }
+    }
+
+    /// The first picture of a film, and the beginning of the second.
+    fn file(bytes: &[u8]) -> Good {
+        let lines: usize = bytes.split_inclusive(|byte| *byte == b'\n').take(2).map(<[u8]>::len).sum();
+        let stream = bytes[..lines + 384 * 6 + 40].to_vec();
+        Good { run: "files", stream, lines, lengths: lengths(3, 2) }
+    }
+
     fn check(&self, s: &mut Session, stream: Vec<u8>) -> Outcome {
-        s.look_and_read("edits", Ask::of(stream, self.lengths))
+        s.look_and_read(self.run, Ask::of(stream, self.lengths))
     }
 
     /// The stream with other bytes in the place of some.

@@ -1,3 +1,4 @@
+pub mod Behind
 pub mod Copied
 pub mod Cut
 pub mod Decimal

@@ -90,7 +90,7 @@ pub fn is_decimal(s: &[u8]) -> bool
     s.len() != 0
 }
 
-fn digit(d: u8) -> usize
+fn digit_value(d: u8) -> usize
     ensures { λ r. ⌜ r ≤ 207 ⌝ }
     ensures { λ r. ⌜ r ≡ d - 48 ⌝ }
 {
@@ -106,7 +106,7 @@ fn appended(n: usize, d: u8) -> usize
     ensures { λ r. ⌜ r ≤ 4097 ⌝ }
     ensures { λ r. ⌜ r ≡ capped (10 * n + (d - 48)) ⌝ }
 {
-    let m = 10 * n + digit(d);
+    let m = 10 * n + digit_value(d);
     if m < 4097 {
         return m;
     }

@@ -56,7 +56,7 @@ fn put(stream: &mut [u8], at: usize, text: &[u8]) -> usize
 }
 
 // The last digit of a number.
-fn digit(n: usize) -> u8
+fn last_digit(n: usize) -> u8
     ensures { λ r. ⌜ r ≡ digitOf n ⌝ }
 {
     b'0' + (n % 10) as u8
@@ -69,7 +69,12 @@ fn four(n: usize) -> [u8; 4]
 {
     let tens = n / 10;
     let hundreds = tens / 10;
-    [digit(hundreds / 10), digit(hundreds), digit(tens), digit(n)]
+    [
+        last_digit(hundreds / 10),
+        last_digit(hundreds),
+        last_digit(tens),
+        last_digit(n),
+    ]
 }
 
 // Puts a side in pixels.

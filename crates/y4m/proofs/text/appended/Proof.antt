@@ -11,14 +11,14 @@ returns : tie.Need-returns
 returns c = (
   search needs,
   sym (capped-small _ (c .if1 .taken))
-      ∙ ap (λ (d : ℕ). capped (10 * c .before .before .args .n + d)) (c .before .digit .ensures .1),
+      ∙ ap (λ (d : ℕ). capped (10 * c .before .before .args .n + d)) (c .before .digit-value .ensures .1),
 )
 
 returns-2 : tie.Need-returns-2
 returns-2 c = (
   search needs,
   sym (capped-large _ (c .if1 .left))
-      ∙ ap (λ (d : ℕ). capped (10 * c .before .before .args .n + d)) (c .before .digit .ensures .1),
+      ∙ ap (λ (d : ℕ). capped (10 * c .before .before .args .n + d)) (c .before .digit-value .ensures .1),
 )
 
 pub appended-spec : {M : Type 1} → statement M

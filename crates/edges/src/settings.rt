@@ -12,11 +12,12 @@ ghost use Rattle.sizes.specs.Sizes.{badParity, frameOfPart};
 ghost use Rattle.edges.specs.Inner.{SmallWindow};
 ghost use Rattle.edges.specs.Laid.{layoutOf, windowOf};
 ghost use Rattle.edges.specs.Levels.{levelsOf, planOf};
-ghost use Rattle.edges.specs.Picture.{entries, flagAt, beforeOf, heldBy};
+ghost use Rattle.edges.specs.Picture.{entries, beforeOf, heldBy};
 use crate::Offsets;
 use crate::levels::Levels;
 use crate::levels::of_planes;
 use sizes::Part;
+use sizes::entries::flag_at;
 
 // Which edges are filtered; with the 8x8 transform no luma edges 1 and 3.
 pub struct Switches {
@@ -44,17 +45,6 @@ pub struct Plan {
     pub luma: Window,
     pub chroma: Window,
     pub levels: Levels,
-}
-
-// The 8x8 flag of macroblock i.
-fn flag(t8s: &[u8], i: usize) -> bool
-    requires { ⌜ (eqb (length (now t8s)) 0 ≡ false → i < length (now t8s)) ⌝ }
-    ensures { λ r. ⌜ r ≡ flagAt (now (t8s .entry)) i ⌝ }
-{
-    if t8s.len() == 0 {
-        return false;
-    }
-    t8s[i] != 0
 }
 
 // A QP as it is lent.
@@ -131,7 +121,7 @@ pub fn plan_at(
     let l = layout_of(part);
     let luma = window_at(l, 16, w, x, row);
     let chroma = window_at(l, 8, w, x, row);
-    let t8 = flag(t8s, row * w + x);
+    let t8 = flag_at(t8s, row * w + x);
     let levels = levels_at(t, w, x, row, qps, o);
     let on = Switches {
         left: 0 < x,

@@ -15,7 +15,8 @@ use Rattle.edges.specs.Picture.{Planes, rowsOf}
 use Rattle.edges.proofs.PartLaws.{on-part-still}
 use Rattle.sizes.specs.declared.Part.{Part}
 use Rattle.edges.proofs.Pictures.{rows-none}
-use Rattle.pictures.specs.Checks.{Lent, heldOf, badFlag, badQp, badStrength, someBad, someBadFlag, pictureChecks, gridChecks, entryChecks}
+use Rattle.sizes.specs.Entries.{badFlag}
+use Rattle.pictures.specs.Checks.{Lent, heldOf, badQp, badStrength, someBad, someBadFlag, pictureChecks, gridChecks, entryChecks}
 use Rattle.pictures.specs.Rows.{badRange, qpsFrom, rowReads, rowAnswer, RowOutcome}
 use Rattle.pictures.proofs.SomeBad.{some-bad-none}
 

@@ -17,7 +17,8 @@ use Rattle.edges.proofs.OnPart.{rows-lengths}
 use Rattle.edges.proofs.PartLaws.{on-part-after}
 use Rattle.sizes.specs.declared.Part.{Part}
 use Rattle.edges.proofs.Pictures.{rows-join}
-use Rattle.pictures.specs.Checks.{Lent, heldOf, badFlag, badQp, badStrength, someBad, someBadFlag}
+use Rattle.sizes.specs.Entries.{badFlag}
+use Rattle.pictures.specs.Checks.{Lent, heldOf, badQp, badStrength, someBad, someBadFlag}
 use Rattle.pictures.specs.Rows.{badRange, qpsFrom, rowChecks, rowAnswer, RowOutcome}
 use Rattle.pictures.proofs.RowCalls.{answered-rows-fit, answered-lengths, done-rows}
 use Rattle.pictures.proofs.SomeBad.{some-bad-join}

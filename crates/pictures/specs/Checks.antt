@@ -13,6 +13,7 @@ use Rattle.edges.specs.Picture.{Held, held}
 use Rattle.edges.specs.declared.Offsets.{Offsets}
 use Rattle.sizes.specs.declared.Part.{Part}
 use Rattle.sizes.specs.declared.Size.{Size}
+use Rattle.sizes.specs.Entries.{badFlagCount, badFlag}
 use Rattle.sizes.specs.Sizes.{badSize, badParity, frameOfPart, badPlanes}
 
 -- what is lent beside the planes, and only read
@@ -32,7 +33,7 @@ heldOf d = held (d .size .w) (d .strengths) (d .qps) (d .t8s) (d .offsets)
 
 -- 4: a per-macroblock grid has the wrong length; that of the flags may be empty
 abbrev pub badLent : ℕ → ℕ → ℕ → ℕ → Bool
-badLent n strengths qps t8s = not (eqb strengths (32 * n)) || not (eqb qps n) || not (eqb t8s 0 || eqb t8s n)
+badLent n strengths qps t8s = not (eqb strengths (32 * n)) || not (eqb qps n) || badFlagCount n t8s
 
 -- 6: an offset is out of range
 abbrev pub badOffset : ℤ → Bool
@@ -41,11 +42,8 @@ badOffset o = ltZ o (negsuc 11) || ltZ (pos 12) o
 abbrev pub badOffsets : Offsets → Bool
 badOffsets o = badOffset (o .a) || badOffset (o .b) || badOffset (o .chroma)
 
--- 7, 8, 9: values that are no flag, no QP, no strength. QPs are lent as bytes, and at eight bits the lowest
--- is 0: none is too low
-abbrev pub badFlag : ℕ → Bool
-badFlag f = ltb 1 f
-
+-- 8, 9: values that are no QP, no strength; 7 is `badFlag`. QPs are lent as bytes, and at eight bits the
+-- lowest is 0: none is too low
 abbrev pub badQp : ℕ → Bool
 badQp q = ltb 51 q
 

@@ -13,6 +13,7 @@ use sizes::Size;
 use sizes::bad_parity;
 use sizes::bad_planes;
 use sizes::bad_size;
+use sizes::entries::bad_flag_count;
 
 // How many macroblocks the planes have that a picture of n is part of.
 fn frame_of_part(part: Part, n: usize) -> usize
@@ -30,7 +31,7 @@ fn bad_lent(n: usize, strengths: usize, qps: usize, t8s: usize) -> bool
     requires { ⌜ n ≤ 36864 ⌝ }
     ensures { λ r. ⌜ r ≡ badLent n strengths qps t8s ⌝ }
 {
-    (strengths != 32 * n) | (qps != n) | !((t8s == 0) | (t8s == n))
+    (strengths != 32 * n) | (qps != n) | bad_flag_count(n, t8s)
 }
 
 // Check 6.

@@ -4,6 +4,8 @@ ghost use mathlib.Core.Path.{_≡_};
 ghost use Prim.Native.Nat.{_≤_};
 ghost use Rattle.sizes.specs.Sizes.{badSize, badParity, badPlanes};
 
+pub mod entries;
+
 // Width and height in macroblocks.
 pub struct Size {
     pub w: usize,

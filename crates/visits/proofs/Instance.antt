@@ -17,7 +17,8 @@ use Rattle.visits.specs.Instance.{AsksPlace, Commutes, Passes}
 use Rattle.visits.specs.Beyond.{Bits}
 use Rattle.sizes.specs.Sizes.{outsideOf, badPlanes}
 use Rattle.sizes.specs.declared.Part.the-variants.{Frame}
-use Rattle.pictures.specs.Checks.{Lent, heldOf, badLent, badFlag, badQp, badStrength, someBad, someBadFlag}
+use Rattle.pictures.specs.Checks.{Lent, heldOf, badLent, badQp, badStrength, someBad, someBadFlag}
+use Rattle.sizes.specs.Entries.{badFlag}
 use Rattle.visits.specs.Checks.{badMark, badMarks, badQps, visitChecks, earlyIn, earlyOf, Sound, Fit}
 use Rattle.laws.proofs.Bools.{and-false}
 use Rattle.laws.proofs.Refusal.{none-applies}

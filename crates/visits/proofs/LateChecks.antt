@@ -14,7 +14,8 @@ use Rattle.laws.proofs.Some.{some-same}
 use Rattle.edges.specs.Picture.{Planes}
 use Rattle.sizes.specs.declared.Part.the-variants.{Frame}
 use Rattle.sizes.specs.Sizes.{outsideOf}
-use Rattle.pictures.specs.Checks.{Lent, badQp, badFlag, badStrength, someBad, someBadFlag, someBadStrength, pictureChecks, gridChecks, entryChecks}
+use Rattle.pictures.specs.Checks.{Lent, badQp, badStrength, someBad, someBadFlag, someBadStrength, pictureChecks, gridChecks, entryChecks}
+use Rattle.sizes.specs.Entries.{badFlag}
 use Rattle.visits.specs.Visit.{At, State, waiting, orElse, answer, visit}
 use Rattle.visits.specs.Checks.{earlyIn, earlyOf, badMark, badMarks, badQps}
 use Rattle.visits.specs.Late.{SameEntry, ofRequest, SameLent, SameMarks, SameSight}

@@ -11,7 +11,8 @@ use Rattle.laws.specs.Local.{Local}
 use Rattle.laws.specs.Places.{Plane}
 use Rattle.laws.proofs.Grid.{decTouch}
 use Rattle.edges.specs.Macroblock.{Settings, lumaMb, chromaMb}
-use Rattle.edges.specs.Picture.{Planes, Held, stepOf, lumaOf, chromaOf, macroblockAt, settingsAt, originOf, entries, flagAt, beforeOf}
+use Rattle.edges.specs.Picture.{Planes, Held, stepOf, lumaOf, chromaOf, macroblockAt, settingsAt, originOf, entries, beforeOf}
+use Rattle.sizes.specs.Entries.{flagAt}
 use Rattle.edges.proofs.Local.{lumaBoth-by, chromaBoth-by}
 use Rattle.edges.proofs.Pictures.{step-index}
 use Rattle.edges.proofs.Steps.{luma-foot, chroma-foot}

@@ -20,7 +20,8 @@ use Rattle.lines.specs.Luma.{nudgeOf, innerOf, lumaNormal, normalLine, lumaLine
 use Rattle.lines.specs.Planes.{lumaAt}
 use Rattle.edges.specs.Edge.{lumaRule, lumaEdge}
 use Rattle.edges.specs.Macroblock.{lumaWay, lumaBoth}
-use Rattle.edges.specs.Picture.{Planes, lumaOf, flagAt, macroblockAt, stepOf}
+use Rattle.edges.specs.Picture.{Planes, lumaOf, macroblockAt, stepOf}
+use Rattle.sizes.specs.Entries.{flagAt}
 use Rattle.pictures.specs.Checks.{Lent, lent, heldOf, someBad}
 use Rattle.visits.specs.Visit.{At, State, waiting, answer, visit}
 use Rattle.visits.specs.Cases.{columnLent, columnPlanes}

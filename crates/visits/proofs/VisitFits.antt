@@ -19,7 +19,7 @@ use Rattle.pictures.specs.Checks.{Lent}
 use Rattle.pictures.proofs.Fitting.{Fitting, fitting}
 use Rattle.visits.specs.Visit.{At}
 use Rattle.visits.specs.Checks.{visitChecks}
-use Rattle.visits.specs.Inner.{InPicture}
+use Rattle.sizes.specs.Inner.{InPicture}
 
 -- ly, lu, lv, lm are the lengths of planes and marks
 pub record VisitFits (part : Part) (d : Lent) (ly lu lv lm : ℕ) (r : At) : Type 0 where

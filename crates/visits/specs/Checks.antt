@@ -10,33 +10,23 @@ use lib.ListN.{length, getD}
 use Rattle.laws.specs.Refusal.{refusal}
 use Rattle.edges.specs.Fields.{Lengths}
 use Rattle.edges.specs.Picture.{Planes}
+use Rattle.sizes.specs.Entries.{badFlag, badBefore, badNear}
 use Rattle.sizes.specs.Sizes.{badSize, outsideOf}
 use Rattle.sizes.specs.declared.Part.{Part}
 use Rattle.sizes.specs.declared.Part.the-variants.{Frame}
-use Rattle.pictures.specs.Checks.{Lent, badLent, badOffsets, badFlag, badQp, badStrength, someBadFlag, someBadStrength, Reads, filterChecks}
+use Rattle.pictures.specs.Checks.{Lent, badLent, badOffsets, badQp, badStrength, someBadFlag, someBadStrength, Reads, filterChecks}
 use Rattle.visits.specs.Visit.{At, State}
 
 -- 7: a value that is no mark
 abbrev pub badMark : ℕ → Bool
 badMark m = ltb 1 m
 
--- where there is a neighbour, d places before i, its entry is bad
-abbrev pub badBefore : (ℕ → Bool) → Bool → List ℕ → ℕ → ℕ → Bool
-badBefore bad there xs i d = there && bad (getD xs (i - d) 0)
-
 unfoldable pub badMarks : List ℕ → ℕ → ℕ → ℕ → Bool
-badMarks ms w x y =
-    badMark (getD ms i 0) || badBefore badMark (ltb 0 x) ms i 1 || badBefore badMark (ltb 0 y) ms i w || badBefore badMark (ltb 0 y && ltb (x + 1) w) ms i (w - 1)
-  where
-    i : ℕ
-    i = y * w + x
+badMarks ms w x y = badNear badMark ms w x y || badBefore badMark (ltb 0 y && ltb (x + 1) w) ms (y * w + x) (w - 1)
 
 -- 8
 unfoldable pub badQps : List ℕ → ℕ → ℕ → ℕ → Bool
-badQps qps w x y = badQp (getD qps i 0) || badBefore badQp (ltb 0 x) qps i 1 || badBefore badQp (ltb 0 y) qps i w
-  where
-    i : ℕ
-    i = y * w + x
+badQps = badNear badQp
 
 -- 7, 8, 9
 abbrev pub visitReads : ℕ → List ℕ → List ℕ → List ℕ → List ℕ → At → Reads

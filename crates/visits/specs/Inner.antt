@@ -1,6 +1,5 @@
--- Apart: no promise to a caller of the public calls rests on it. What functions of this crate ask of the
--- place, and what the loop of `replay` promises.
-use Prim.Native.Nat.{ℕ, _+_, _*_, _<_}
+-- Apart: no promise to a caller of the public calls rests on it. What the loop of `replay` promises.
+use Prim.Native.Nat.{ℕ}
 use mathlib.Core.Path.{_≡_}
 use mathlib.Core.List.{List, _++_}
 use lib.ListN.{take, drop}
@@ -9,11 +8,6 @@ use Rattle.sizes.specs.declared.Part.{Part}
 use Rattle.pictures.specs.Checks.{Lent}
 use Rattle.visits.specs.Promise.{visitIn, requests}
 use Rattle.visits.specs.Visit.{State, run, answers}
-
--- (x, y) is a macroblock of a picture w wide, and one of the first n
-pub record InPicture (w x y n : ℕ) : Type 0 where
-  pub column : x < w
-  pub index : y * w + x < n
 
 -- each visit made in turn, and its answer in its place
 pub record Replayed (part : Part) (d : Lent) (xs ys : List ℕ) (s : State Planes) (t : State Planes) (out : List ℕ) : Type 0 where

@@ -1,13 +1,13 @@
 // The checks of a visit before 13, in the order of their numbers.
 ghost use mathlib.Core.Path.{_≡_};
-ghost use mathlib.Core.Bool.{true, false};
+ghost use mathlib.Core.Bool.{false};
 ghost use Prim.Native.Nat.{_+_, _*_, _<_, _≤_};
-ghost use lib.Dec.{eqb, ltb};
+ghost use lib.Dec.{eqb};
 ghost use lib.ListN.{length};
 ghost use Rattle.laws.specs.Refusal.{refusal};
 ghost use Rattle.pictures.specs.Checks.{lent, entryChecks};
-ghost use Rattle.visits.specs.Checks.{badBefore, badMarks, badQps, visitReads, visitChecks};
-ghost use Rattle.visits.specs.Inner.{InPicture};
+ghost use Rattle.sizes.specs.Inner.{InPicture};
+ghost use Rattle.visits.specs.Checks.{badMarks, badQps, visitReads, visitChecks};
 use edges::Offsets;
 use pictures::checks::any_bad_flag;
 use pictures::checks::any_bad_strength;
@@ -15,29 +15,17 @@ use pictures::checks::refuse_grids;
 use pictures::checks::refuse_picture;
 use sizes::Part;
 use sizes::Size;
-
-// Where there is a neighbour d places before i, its entry is above `top`.
-fn over_before(there: bool, s: &[u8], i: usize, d: usize, top: u8) -> bool
-    requires { ⌜ (i < length (now s)) × (there ≡ true → d ≤ i) ⌝ }
-    ensures { λ r. ⌜ r ≡ badBefore (ltb top) there (now (s .entry)) i d ⌝ }
-{
-    if there {
-        return top < s[i - d];
-    }
-    false
-}
+use sizes::entries::over_before;
+use sizes::entries::over_near;
 
 // Check 7, of the marks.
 fn bad_marks(marks: &[u8], w: usize, x: usize, y: usize) -> bool
     requires { ⌜ InPicture w x y (length (now marks)) ⌝ }
     ensures { λ r. ⌜ r ≡ badMarks (now (marks .entry)) w x y ⌝ }
 {
-    let i = y * w + x;
-    let own = 1 < marks[i];
-    let left = over_before(0 < x, marks, i, 1, 1);
-    let upper = over_before(0 < y, marks, i, w, 1);
-    let upper_right = over_before((0 < y) & (x + 1 < w), marks, i, w - 1, 1);
-    own | left | upper | upper_right
+    let near = over_near(marks, w, x, y, 1);
+    let upper_right = over_before((0 < y) & (x + 1 < w), marks, y * w + x, w - 1, 1);
+    near | upper_right
 }
 
 // Check 8.
@@ -45,11 +33,7 @@ fn bad_qps(qps: &[u8], w: usize, x: usize, y: usize) -> bool
     requires { ⌜ InPicture w x y (length (now qps)) ⌝ }
     ensures { λ r. ⌜ r ≡ badQps (now (qps .entry)) w x y ⌝ }
 {
-    let i = y * w + x;
-    let own = 51 < qps[i];
-    let left = over_before(0 < x, qps, i, 1, 51);
-    let upper = over_before(0 < y, qps, i, w, 51);
-    own | left | upper
+    over_near(qps, w, x, y, 51)
 }
 
 // Checks 7 to 9, which read entries.

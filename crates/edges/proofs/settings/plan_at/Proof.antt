@@ -29,7 +29,7 @@ chroma c κs =
     subst (λ (l : Layout). SmallWindow l 8 (a .w) (a .x) (a .row)) (sym (c .before .layout-of .ensures))
     (chroma-window (layoutOf (a .part)) (a .w) (a .x) (a .row) (skip-lt (a .part) (s .pre .1 .0 .0)) (s .pre .1 .1 .0) (small s))
 
-flag-requires : tie.Need-flag-requires
+flag-requires : tie.Need-flag-at-requires
 flag-requires c κs h = let k = c .before .before .before .before .before .pre .1 .1 .2 h in omega arith
 
 returns : tie.Need-returns
@@ -42,7 +42,7 @@ returns c strengths =
     let luma-at = one .window-at .ensures ∙ ap (λ (m : Layout). windowOf m 16 (a .w) (a .x) (a .row)) (l .layout-of .ensures) in
     let chroma-at = two .window-at2 .ensures ∙ ap (λ (m : Layout). windowOf m 8 (a .w) (a .x) (a .row)) (l .layout-of .ensures) in
     λ i. record {
-      on = record { left = ltb 0 (a .x); top = ltb 0 (a .row); inner = true; t8 = f .flag .ensures i };
+      on = record { left = ltb 0 (a .x); top = ltb 0 (a .row); inner = true; t8 = f .flag-at .ensures i };
       luma = luma-at i;
       chroma = chroma-at i;
       levels = c .levels-at .ensures i;

@@ -8,29 +8,22 @@ use Rattle.laws.proofs.Bools.{and-true}
 use Rattle.visits.proofs.checks.bad_marks.Statement.{statement}
 use Rattle.visits.proofs.checks.bad_marks.Tie as tie
 
-upper : tie.Need-over-before-requires-2
-upper c κs =
-    let a = c .before .before .before .args in
-    (omega (arith, c .before .before .before .pre), λ h. omega (arith, row-pos (a .y) (a .w) (ltb-true 0 (a .y) h)))
-
-upper-right : tie.Need-over-before-requires-3
+upper-right : tie.Need-over-before-requires
 upper-right c κs =
-    let a = c .before .before .before .before .args in
-    (omega (arith, c .before .before .before .before .pre), λ h. omega (arith, row-pos (a .y) (a .w) (ltb-true 0 (a .y) (and-true _ _ h .0))))
+    let a = c .before .before .args in
+    (omega (arith, c .before .before .pre), λ h. omega (arith, row-pos (a .y) (a .w) (ltb-true 0 (a .y) (and-true _ _ h .0))))
 
 returns : tie.Need-returns
 unfolding badMarks
-returns c = rw (c .before .before .over-before .ensures, c .before .over-before2 .ensures, c .over-before3 .ensures)
+returns c = rw (c .before .over-near .ensures, c .over-before .ensures)
 
 pub bad-marks-spec : {M : Type 1} → statement M
 bad-marks-spec =
     tie.close
     (tie.spec
+    (λ c κs. search needs)
     (λ c. search needs)
     (λ c. search needs)
-    (λ c. search needs)
-    (λ c κs. (omega (arith, c .before .before .pre), λ h. omega (arith, ltb-true)))
-    upper
     (λ c. search needs)
     (λ c. search needs)
     upper-right

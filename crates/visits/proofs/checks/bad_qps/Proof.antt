@@ -1,28 +1,12 @@
--- `bad_qps`: the three QPs read are those of the definition. Assumes nothing.
+-- `bad_qps`: the entries read are those of the definition. Assumes nothing.
 use borrow.Author.Needs.{needs}
-use borrow.Author.Tests.{ltb-true}
-use native.Mathlib.Omega.{arith}
-use Rattle.laws.proofs.Grid.{row-pos}
 use Rattle.visits.specs.Checks.{badQps}
 use Rattle.visits.proofs.checks.bad_qps.Statement.{statement}
 use Rattle.visits.proofs.checks.bad_qps.Tie as tie
 
-upper : tie.Need-over-before-requires-2
-upper c κs =
-    let a = c .before .before .before .args in
-    (omega (arith, c .before .before .before .pre), λ h. omega (arith, row-pos (a .y) (a .w) (ltb-true 0 (a .y) h)))
-
 returns : tie.Need-returns
 unfolding badQps
-returns c = rw (c .before .over-before .ensures, c .over-before2 .ensures)
+returns c = c .over-near .ensures
 
 pub bad-qps-spec : {M : Type 1} → statement M
-bad-qps-spec =
-    tie.close
-    (tie.spec
-    (λ c. search needs)
-    (λ c. search needs)
-    (λ c. search needs)
-    (λ c κs. (omega (arith, c .before .before .pre), λ h. omega (arith, ltb-true)))
-    upper
-    returns)
+bad-qps-spec = tie.close (tie.spec (λ c κs. search needs) returns)

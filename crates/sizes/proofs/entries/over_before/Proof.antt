@@ -1,7 +1,7 @@
 -- `over_before`: each return is its case of the test. Assumes nothing.
 use native.Mathlib.Omega.{arith}
-use Rattle.visits.proofs.checks.over_before.Statement.{statement}
-use Rattle.visits.proofs.checks.over_before.Tie as tie
+use Rattle.sizes.proofs.entries.over_before.Statement.{statement}
+use Rattle.sizes.proofs.entries.over_before.Tie as tie
 
 pub over-before-spec : {M : Type 1} → statement M
 over-before-spec =

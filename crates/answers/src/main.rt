@@ -11,7 +11,6 @@ use strengths::calls::derive_mb_bs;
 use strengths::calls::derive_mb_kind;
 use strengths::kinds::Flagged;
 use strengths::kinds::MbKind;
-use strengths::kinds::Plain;
 use strengths::kinds::Request;
 
 fn text(s: &[u8]) {
@@ -44,7 +43,9 @@ fn rise(s: &mut [u8]) {
 }
 
 // Blocks that are all intra, or all inter with one count and one vector apart, both in the right macroblock.
-fn plain(inter: u8, x: usize, t8: bool, s: &mut [u8]) {
+// Where that one is 8x8 the original, which looks at each block's own count, is lent it in all four blocks of
+// the 8x8 block.
+fn plain(inter: u8, x: usize, t8: u8, s: &mut [u8]) {
     let mut nnz = [0; 32];
     nnz[13] = 3;
     let mut mv0 = [0; 64];
@@ -52,7 +53,9 @@ fn plain(inter: u8, x: usize, t8: bool, s: &mut [u8]) {
     let n = derive_mb(
         Size { w: 2, h: 1 },
         false,
-        Plain { x, y: 0, t8 },
+        x,
+        0,
+        &[0, t8],
         &[inter; 32],
         &nnz,
         &[0; 32],
@@ -79,8 +82,8 @@ fn flagged(x: usize, flat: bool, uniform: bool, s: &mut [u8]) {
             y: 0,
             flat,
             uniform,
-            t8: false,
         },
+        &[],
         &[1; 32],
         &[0; 32],
         &ref0,
@@ -99,6 +102,7 @@ fn by_kind(x: usize, kind: MbKind, s: &mut [u8]) {
         Size { w: 2, h: 1 },
         false,
         Request { x, y: 0, kind },
+        &[],
         &[
             0,
             0,
@@ -174,17 +178,17 @@ fn frame(q: u8, t8s: &[u8], o: Offsets, s: &[u8]) {
 
 fn main() {
     let mut s = [9; 64];
-    plain(1, 0, false, &mut s);
-    plain(1, 1, true, &mut s);
+    plain(1, 0, 0, &mut s);
+    plain(1, 1, 1, &mut s);
     flagged(0, true, true, &mut s);
     flagged(1, false, false, &mut s);
     flagged(1, false, true, &mut s);
     by_kind(0, MbKind::Intra, &mut s);
     by_kind(1, MbKind::Skip, &mut s);
     by_kind(1, MbKind::Intra, &mut s);
-    plain(0, 0, false, &mut s);
-    plain(1, 1, false, &mut s);
-    plain(2, 1, false, &mut s);
+    plain(0, 0, 0, &mut s);
+    plain(1, 1, 0, &mut s);
+    plain(2, 1, 0, &mut s);
     frame(
         34,
         &[],

@@ -1,7 +1,7 @@
 -- An outcome is kept where the part, the offsets, or what check 12 says, are replaced by equal ones; and what
 -- a number for a kind comes to. Assumes nothing.
 use mathlib.Core.Path.{_≡_, sym, ap, _∙_, subst}
-use mathlib.Core.Bool.{Bool, true, false, _||_}
+use mathlib.Core.Bool.{Bool, true, _||_}
 use mathlib.Core.List.{List}
 use Prim.Native.Nat.{ℕ, _<_, _≤_}
 use borrow.Author.Tests.{lt-ltb, le-ltb}
@@ -29,8 +29,8 @@ module _ (size : Size) {part part′ : Part} {o o′ : Offsets} (s q t : List �
       subst (λ (k : Offsets). VisitOutcome part′ (lent size k s q t) p r n p′) e (subst (λ (k : Part). VisitOutcome k (lent size o s q t) p r n p′) f h)
 
 -- ---- check 12
-pub kind-kept : (size : Size) (field : Bool) (x y : ℕ) (g : Grids) {u u′ : Bool} (s : List ℕ) (n : ℕ) (s′ : List ℕ) → u ≡ u′ → DeriveOutcome size field x y false g u s n s′ → DeriveOutcome size field x y false g u′ s n s′
-kind-kept size field x y g s n s′ e h = subst (λ (u : Bool). DeriveOutcome size field x y false g u s n s′) e h
+pub kind-kept : (size : Size) (field : Bool) (x y : ℕ) (t8s : List ℕ) (g : Grids) {u u′ : Bool} (s : List ℕ) (n : ℕ) (s′ : List ℕ) → u ≡ u′ → DeriveOutcome size field x y t8s g u s n s′ → DeriveOutcome size field x y t8s g u′ s n s′
+kind-kept size field x y t8s g s n s′ e h = subst (λ (u : Bool). DeriveOutcome size field x y t8s g u s n s′) e h
 
 -- a number above 3 is true of no grids; up to 3 it is as true as its kind
 module _ (size : Size) (x y k : ℕ) (g : Grids) where

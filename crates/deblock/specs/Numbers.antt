@@ -12,7 +12,6 @@ use Rattle.strengths.specs.Calls.{untrueKind}
 use Rattle.strengths.specs.declared.kinds.Flagged.{Flagged}
 use Rattle.strengths.specs.declared.kinds.MbKind.{MbKind}
 use Rattle.strengths.specs.declared.kinds.MbKind.the-variants.{Intra, Skip, InterUniform, Inter}
-use Rattle.strengths.specs.declared.kinds.Plain.{Plain}
 use Rattle.strengths.specs.declared.kinds.Request.{Request}
 
 -- a picture's sides
@@ -32,13 +31,9 @@ offsets a b c = record { a = a; b = b; chroma = c }
 abbrev pub isSet : ℕ → Bool
 isSet n = not (eqb n 0)
 
--- one macroblock with its transform flag
-abbrev pub plain : ℕ → ℕ → ℕ → Plain
-plain x y t8 = record { x = x; y = y; t8 = isSet t8 }
-
--- .. with its three flags
-abbrev pub flagged : ℕ → ℕ → ℕ → ℕ → ℕ → Flagged
-flagged x y flat uniform t8 = record { x = x; y = y; flat = isSet flat; uniform = isSet uniform; t8 = isSet t8 }
+-- one macroblock with its two flags
+abbrev pub flagged : ℕ → ℕ → ℕ → ℕ → Flagged
+flagged x y flat uniform = record { x = x; y = y; flat = isSet flat; uniform = isSet uniform }
 
 -- .. with its kind
 abbrev pub request : ℕ → ℕ → MbKind → Request

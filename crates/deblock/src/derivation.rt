@@ -1,9 +1,8 @@
 // The strength calls, for C.
 ghost use mathlib.Core.Path.{_≡_};
-ghost use mathlib.Core.Bool.{false};
 ghost use Rattle.motion.specs.Grids.{grids};
 ghost use Rattle.strengths.specs.Calls.{DeriveOutcome, FlagsOutcome, PlainOutcome};
-ghost use Rattle.deblock.specs.Numbers.{sizeOf, isSet, plain, flagged, kindNumber, untrueNumber};
+ghost use Rattle.deblock.specs.Numbers.{sizeOf, isSet, flagged, kindNumber, untrueNumber};
 use sizes::Size;
 use strengths::calls::derive_mb;
 use strengths::calls::derive_mb_bs;
@@ -11,10 +10,9 @@ use strengths::calls::derive_mb_kind;
 use strengths::checks::refuse_derive;
 use strengths::kinds::Flagged;
 use strengths::kinds::MbKind;
-use strengths::kinds::Plain;
 use strengths::kinds::Request;
 
-// Strengths of a macroblock of which nothing is known but its transform.
+// Strengths of a macroblock of which nothing is known.
 #[no_mangle]
 pub extern "C" fn deblock_strengths<'a>(
     w: usize,
@@ -22,7 +20,7 @@ pub extern "C" fn deblock_strengths<'a>(
     field: u8,
     x: usize,
     y: usize,
-    t8: u8,
+    t8s: &[u8],
     inter: &[u8],
     nnz: &[u8],
     ref0: &[i8],
@@ -31,14 +29,15 @@ pub extern "C" fn deblock_strengths<'a>(
     mv1: &'a [i16],
     strengths: &mut [u8],
 ) -> u32
-    ensures { λ n. ⌜ PlainOutcome (sizeOf w h) (isSet field) (plain x y t8) (grids (now (inter .entry)) (now (nnz .entry)) (now (ref0 .entry)) (now (mv0 .entry)) (now (ref1 .entry)) (now (mv1 .entry))) (now (strengths .entry)) n (now (strengths .exit)) ⌝ }
+    ensures { λ n. ⌜ PlainOutcome (sizeOf w h) (isSet field) x y (now (t8s .entry)) (grids (now (inter .entry)) (now (nnz .entry)) (now (ref0 .entry)) (now (mv0 .entry)) (now (ref1 .entry)) (now (mv1 .entry))) (now (strengths .entry)) n (now (strengths .exit)) ⌝ }
 {
     let size = Size { w, h };
-    let p = Plain { x, y, t8: t8 != 0 };
     derive_mb(
         size,
         field != 0,
-        p,
+        x,
+        y,
+        t8s,
         inter,
         nnz,
         ref0,
@@ -59,7 +58,7 @@ pub extern "C" fn deblock_strengths_flags<'a>(
     y: usize,
     flat: u8,
     uniform: u8,
-    t8: u8,
+    t8s: &[u8],
     inter: &[u8],
     nnz: &[u8],
     ref0: &[i8],
@@ -68,7 +67,7 @@ pub extern "C" fn deblock_strengths_flags<'a>(
     mv1: &'a [i16],
     strengths: &mut [u8],
 ) -> u32
-    ensures { λ n. ⌜ FlagsOutcome (sizeOf w h) (isSet field) (flagged x y flat uniform t8) (grids (now (inter .entry)) (now (nnz .entry)) (now (ref0 .entry)) (now (mv0 .entry)) (now (ref1 .entry)) (now (mv1 .entry))) (now (strengths .entry)) n (now (strengths .exit)) ⌝ }
+    ensures { λ n. ⌜ FlagsOutcome (sizeOf w h) (isSet field) (flagged x y flat uniform) (now (t8s .entry)) (grids (now (inter .entry)) (now (nnz .entry)) (now (ref0 .entry)) (now (mv0 .entry)) (now (ref1 .entry)) (now (mv1 .entry))) (now (strengths .entry)) n (now (strengths .exit)) ⌝ }
 {
     let size = Size { w, h };
     let f = Flagged {
@@ -76,12 +75,12 @@ pub extern "C" fn deblock_strengths_flags<'a>(
         y,
         flat: flat != 0,
         uniform: uniform != 0,
-        t8: t8 != 0,
     };
     derive_mb_bs(
         size,
         field != 0,
         f,
+        t8s,
         inter,
         nnz,
         ref0,
@@ -117,6 +116,7 @@ pub extern "C" fn deblock_strengths_kind<'a>(
     x: usize,
     y: usize,
     kind: u8,
+    t8s: &[u8],
     inter: &[u8],
     nnz: &[u8],
     ref0: &[i8],
@@ -125,7 +125,7 @@ pub extern "C" fn deblock_strengths_kind<'a>(
     mv1: &'a [i16],
     strengths: &mut [u8],
 ) -> u32
-    ensures { λ n. ⌜ DeriveOutcome (sizeOf w h) (isSet field) x y false (grids (now (inter .entry)) (now (nnz .entry)) (now (ref0 .entry)) (now (mv0 .entry)) (now (ref1 .entry)) (now (mv1 .entry))) (untrueNumber (sizeOf w h) x y kind (grids (now (inter .entry)) (now (nnz .entry)) (now (ref0 .entry)) (now (mv0 .entry)) (now (ref1 .entry)) (now (mv1 .entry)))) (now (strengths .entry)) n (now (strengths .exit)) ⌝ }
+    ensures { λ n. ⌜ DeriveOutcome (sizeOf w h) (isSet field) x y (now (t8s .entry)) (grids (now (inter .entry)) (now (nnz .entry)) (now (ref0 .entry)) (now (mv0 .entry)) (now (ref1 .entry)) (now (mv1 .entry))) (untrueNumber (sizeOf w h) x y kind (grids (now (inter .entry)) (now (nnz .entry)) (now (ref0 .entry)) (now (mv0 .entry)) (now (ref1 .entry)) (now (mv1 .entry)))) (now (strengths .entry)) n (now (strengths .exit)) ⌝ }
 {
     let size = Size { w, h };
     if 3 < kind {
@@ -133,6 +133,7 @@ pub extern "C" fn deblock_strengths_kind<'a>(
             size,
             x,
             y,
+            t8s,
             strengths.len(),
             inter,
             nnz,
@@ -149,6 +150,7 @@ pub extern "C" fn deblock_strengths_kind<'a>(
         size,
         field != 0,
         r,
+        t8s,
         inter,
         nnz,
         ref0,

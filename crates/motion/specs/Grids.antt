@@ -22,9 +22,9 @@ pub record Grids : Type 0 where
 abbrev pub grids : List ℕ → List ℕ → List ℤ → List ℤ → List ℤ → List ℤ → Grids
 grids inters counts r m s n = record { inter = inters; nnz = counts; ref0 = r; mv0 = m; ref1 = s; mv1 = n }
 
--- block i is coded: it has coefficients
-abbrev pub coded : Grids → ℕ → Bool
-coded g i = not (eqb (getD (g .nnz) i 0) 0)
+-- block i's own count is not 0
+abbrev pub counted : List ℕ → ℕ → Bool
+counted nnz i = not (eqb (getD nnz i 0) 0)
 
 -- ---- the motion of block i. An empty list holds no reference and the vector 0
 abbrev pub refAt : List ℤ → ℕ → ℤ

@@ -15,7 +15,7 @@ use lib.ListN.{length, getD}
 use Rattle.laws.proofs.Lists.{past}
 use Rattle.motion.specs.Grids.{Grids}
 use Rattle.edges.specs.Fields.{onPart}
-use Rattle.edges.specs.Picture.{Planes, entries, flagAt, heldBy, held, frameOf}
+use Rattle.edges.specs.Picture.{Planes, entries, heldBy, held, frameOf}
 use Rattle.edges.specs.declared.Offsets.{Offsets}
 use Rattle.sizes.specs.declared.Part.{Part}
 use Rattle.sizes.specs.declared.Size.{Size}
@@ -23,9 +23,7 @@ use Rattle.strengths.specs.Calls.{PlainOutcome}
 use Rattle.pictures.specs.Checks.{lent}
 use Rattle.pictures.specs.Rows.{WholeOutcome}
 use Rattle.pictures.specs.Standard.{isField, ofIndex, strengthsOf, pictureOf, Derived}
-use Rattle.strengths.specs.Strength.{modeOf, written}
-use Rattle.strengths.specs.declared.kinds.Plain.{Plain}
-use Rattle.strengths.proofs.Before.{flag-before}
+use Rattle.strengths.specs.Strength.{written}
 use Rattle.pictures.proofs.Left.{whole}
 use Rattle.strengths.proofs.Written.{written-length, written-at, written-beside}
 
@@ -52,18 +50,15 @@ module _ (field : Bool) (g : Grids) (size : Size) (t8s : List ℕ) where
   derived-picture qps s o p d = λ i. frameOf (heldBy (size .w) (derived-strengths s d i) qps t8s o) (size .h) p
 
   -- ---- a derived grid is what one flagless call a macroblock leaves, in raster order, each served: s 0
-  -- before the first, s n after the last
-  abbrev asked : ℕ → Plain
-  asked i = record { x = i % size .w; y = i / size .w; t8 = flagAt t8s i }
-
+  -- before the first, s n after the last. The flags are those that filtering is lent
   module _ (s : ℕ → List ℕ) (room : length (s 0) ≡ 32 * (size .w * size .h))
-      (calls : (i : ℕ) → i < size .w * size .h → PlainOutcome size field (asked i) g (s i) 0 (s (i + 1))) where
+      (calls : (i : ℕ) → i < size .w * size .h → PlainOutcome size field (i % size .w) (i / size .w) t8s g (s i) 0 (s (i + 1))) where
     step : (i : ℕ) → i < size .w * size .h → s (suc i) ≡ written i (ofIndex field g size t8s i) (s i)
     step i h =
         let e = div-add-mod' i (size .w) in
         ap s (omega arith)
         ∙ calls i h .leaves
-        ∙ (λ j. written (e j) (flag-before (modeOf field) g (size .w) (flagAt t8s) (i % size .w) (i / size .w) (ap (flagAt t8s) (sym e)) j) (s i))
+        ∙ ap (λ (n : ℕ). written n (ofIndex field g size t8s i) (s i)) e
 
     filled : (n : ℕ) → n ≤ size .w * size .h → length (s n) ≡ 32 * (size .w * size .h)
     filled zero h = room

@@ -8,7 +8,8 @@ use mathlib.Core.List.{List}
 use lib.Dec.{ltb}
 use lib.ListN.{length, getD}
 use Rattle.motion.specs.Grids.{Grids}
-use Rattle.edges.specs.Picture.{Planes, Held, flagAt, heldBy, frameOf}
+use Rattle.edges.specs.Picture.{Planes, Held, heldBy, frameOf}
+use Rattle.sizes.specs.Entries.{flagAt}
 use Rattle.edges.specs.declared.Offsets.{Offsets}
 use Rattle.sizes.specs.declared.Part.{Part}
 use Rattle.sizes.specs.declared.Part.the-variants.{Frame, Field}

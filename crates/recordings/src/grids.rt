@@ -14,7 +14,6 @@ use crate::bytes::fill;
 use crate::space;
 use sizes::Size;
 use strengths::calls::derive_mb;
-use strengths::kinds::Plain;
 
 // A byte that stands for -128 to 127.
 fn signed(b: u8) -> i8 {
@@ -81,18 +80,13 @@ fn derive<'a>(
     t8s: &[u8],
     s: &mut [u8],
 ) -> bool
-    ensures { λ r. ⌜ (r ≡ every n (servedAt size (grids (now (inter .entry)) (now (nnz .entry)) (now (ref0 .entry)) (now (mv0 .entry)) (now (ref1 .entry)) (now (mv1 .entry))) (length (now (s .entry))))) × (now (s .exit) ≡ derivedTo size field (grids (now (inter .entry)) (now (nnz .entry)) (now (ref0 .entry)) (now (mv0 .entry)) (now (ref1 .entry)) (now (mv1 .entry))) (now (t8s .entry)) n (now (s .entry))) ⌝ }
+    ensures { λ r. ⌜ (r ≡ every n (servedAt size (now (t8s .entry)) (grids (now (inter .entry)) (now (nnz .entry)) (now (ref0 .entry)) (now (mv0 .entry)) (now (ref1 .entry)) (now (mv1 .entry))) (length (now (s .entry))))) × (now (s .exit) ≡ derivedTo size field (grids (now (inter .entry)) (now (nnz .entry)) (now (ref0 .entry)) (now (mv0 .entry)) (now (ref1 .entry)) (now (mv1 .entry))) (now (t8s .entry)) n (now (s .entry))) ⌝ }
 {
     let mut done = true;
     for i in 0..n {
         let x = column(i, size.w);
         let y = row(i, size.w);
-        let p = Plain {
-            x,
-            y,
-            t8: byte_at(t8s, i) != 0,
-        };
-        done = done & (derive_mb(size, field, p, inter, nnz, ref0, mv0, ref1, mv1, s) == 0);
+        done = done & (derive_mb(size, field, x, y, t8s, inter, nnz, ref0, mv0, ref1, mv1, s) == 0);
     }
     done
 }

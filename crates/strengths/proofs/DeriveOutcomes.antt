@@ -11,11 +11,13 @@ use lib.ListN.{length}
 use Rattle.laws.specs.Refusal.{refusal}
 use Rattle.laws.proofs.Refusal.{passes, refusal-cut, refusal-left}
 use Rattle.motion.specs.Grids.{Grids}
+use Rattle.sizes.specs.Entries.{flagAt}
 use Rattle.strengths.specs.Checks.{disagree}
+use Rattle.strengths.specs.Eights.{transformsOf}
 use Rattle.strengths.specs.Strength.{modeOf, strengthAt, written}
 use Rattle.strengths.specs.Kinds.{isKind}
 use Rattle.strengths.specs.ByKind.{strengthBy}
-use Rattle.strengths.specs.Calls.{lengthChecks, blockChecks, deriveChecks, answerOf, oneFlag, untrueKind, untrueFlags, DeriveOutcome, KindOutcome, FlagsOutcome, PlainOutcome}
+use Rattle.strengths.specs.Calls.{lengthChecks, valueChecks, deriveChecks, answerOf, untrueKind, untrueFlags, DeriveOutcome, KindOutcome, FlagsOutcome, PlainOutcome}
 use Rattle.strengths.specs.declared.kinds.MbKind.{MbKind}
 use Rattle.sizes.specs.declared.Size.{Size}
 use Rattle.strengths.specs.declared.kinds.Flagged.{Flagged}
@@ -23,74 +25,73 @@ use Rattle.strengths.specs.declared.kinds.Request.{Request}
 use Rattle.strengths.proofs.ByKind.{kind-is}
 use Rattle.strengths.proofs.GridsFit.{grids-fit, Derivable, derivable}
 
-module _ (size : Size) (x y : ℕ) (g : Grids) (n : ℕ) where
+module _ (size : Size) (x y : ℕ) (t8s : List ℕ) (g : Grids) (n : ℕ) where
   -- ---- what is known once checks 1 to 11 have passed
-  pub passed-derivable : refusal (deriveChecks size x y g n) ≡ 0 → Derivable size x y g n
-  passed-derivable e = derivable size x y g n (grids-fit size x y g n (refusal-left (lengthChecks size x y g n) (blockChecks size x y g) tt e))
+  pub passed-derivable : refusal (deriveChecks size x y t8s g n) ≡ 0 → Derivable size x y t8s g n
+  passed-derivable e = derivable size x y t8s g n (grids-fit size x y t8s g n (refusal-left (lengthChecks size x y t8s g n) (valueChecks size x y t8s g) tt e))
 
-  pub agrees : refusal (deriveChecks size x y g n) ≡ 0 → disagree (g .inter) (size .w) x y ≡ false
+  pub agrees : refusal (deriveChecks size x y t8s g n) ≡ 0 → disagree (g .inter) (size .w) x y ≡ false
   agrees e =
-      passes 11 (deriveChecks size x y g n) tt e
+      passes 11 (deriveChecks size x y t8s g n) tt e
 
   -- ---- the answer, by the checks before 12
-  answer-cut : (untrue : Bool) → answerOf size x y g untrue n ≡ cond (eqb (refusal (deriveChecks size x y g n)) 0) (cond untrue 12 0) (refusal (deriveChecks size x y g n))
+  answer-cut : (untrue : Bool) → answerOf size x y t8s g untrue n ≡ cond (eqb (refusal (deriveChecks size x y t8s g n)) 0) (cond untrue 12 0) (refusal (deriveChecks size x y t8s g n))
   unfolding answerOf
-  answer-cut untrue = refusal-cut (deriveChecks size x y g n) ((12, untrue) ∷ []) tt
+  answer-cut untrue = refusal-cut (deriveChecks size x y t8s g n) ((12, untrue) ∷ []) tt
 
   -- the checks may be made in two parts
-  pub checks-cut : refusal (deriveChecks size x y g n) ≡ cond (eqb (refusal (lengthChecks size x y g n)) 0) (refusal (blockChecks size x y g)) (refusal (lengthChecks size x y g n))
-  checks-cut = refusal-cut (lengthChecks size x y g n) (blockChecks size x y g) tt
+  pub checks-cut : refusal (deriveChecks size x y t8s g n) ≡ cond (eqb (refusal (lengthChecks size x y t8s g n)) 0) (refusal (valueChecks size x y t8s g)) (refusal (lengthChecks size x y t8s g n))
+  checks-cut = refusal-cut (lengthChecks size x y t8s g n) (valueChecks size x y t8s g) tt
 
-module _ (size : Size) (field : Bool) (x y : ℕ) (t8 : Bool) (g : Grids) (untrue : Bool) (s : List ℕ) where
-  pub refused : (n : ℕ) → n ≡ refusal (deriveChecks size x y g (length s)) → (n ≡ 0 → ⊥) → DeriveOutcome size field x y t8 g untrue s n s
+module _ (size : Size) (field : Bool) (x y : ℕ) (t8s : List ℕ) (g : Grids) (untrue : Bool) (s : List ℕ) where
+  pub refused : (n : ℕ) → n ≡ refusal (deriveChecks size x y t8s g (length s)) → (n ≡ 0 → ⊥) → DeriveOutcome size field x y t8s g untrue s n s
   refused n e h = record {
-    says = e ∙ sym (answer-cut size x y g (length s) untrue ∙ ap (λ (b : Bool). cond b (cond untrue 12 0) (refusal (deriveChecks size x y g (length s)))) (ne-eqb _ 0 (λ k. h (e ∙ k))));
+    says = e ∙ sym (answer-cut size x y t8s g (length s) untrue ∙ ap (λ (b : Bool). cond b (cond untrue 12 0) (refusal (deriveChecks size x y t8s g (length s)))) (ne-eqb _ 0 (λ k. h (e ∙ k))));
     leaves = rw (ne-eqb n 0 h);
   }
 
-  pub untrue-12 : refusal (deriveChecks size x y g (length s)) ≡ 0 → untrue ≡ true → DeriveOutcome size field x y t8 g untrue s 12 s
+  pub untrue-12 : refusal (deriveChecks size x y t8s g (length s)) ≡ 0 → untrue ≡ true → DeriveOutcome size field x y t8s g untrue s 12 s
   untrue-12 e u = record {
-    says = sym (answer-cut size x y g (length s) untrue ∙ (λ i. cond (eqb (e i) 0) (cond (u i) 12 0) (e i)));
+    says = sym (answer-cut size x y t8s g (length s) untrue ∙ (λ i. cond (eqb (e i) 0) (cond (u i) 12 0) (e i)));
     leaves = refl;
   }
 
   -- done by a kind that is true
-  pub done : (kind : MbKind) (s′ : List ℕ) → refusal (deriveChecks size x y g (length s)) ≡ 0 → untrue ≡ false → isKind g (size .w) x y kind ≡ true
-      → s′ ≡ written (y * size .w + x) (strengthBy kind (modeOf field) g (size .w) t8 x y) s → DeriveOutcome size field x y t8 g untrue s 0 s′
+  pub done : (kind : MbKind) (s′ : List ℕ) → refusal (deriveChecks size x y t8s g (length s)) ≡ 0 → untrue ≡ false → isKind g (size .w) x y kind ≡ true
+      → s′ ≡ written (y * size .w + x) (strengthBy kind (modeOf field) g (size .w) (transformsOf (flagAt t8s) (size .w) x y) x y) s → DeriveOutcome size field x y t8s g untrue s 0 s′
   done kind s′ e u k w = record {
-    says = sym (answer-cut size x y g (length s) untrue ∙ (λ i. cond (eqb (e i) 0) (cond (u i) 12 0) (e i)));
-    leaves = w ∙ (λ i. written (y * size .w + x) (λ (b : ℕ). kind-is g (size .w) x y (agrees size x y g (length s) e) kind k (modeOf field) (oneFlag t8) b i) s);
+    says = sym (answer-cut size x y t8s g (length s) untrue ∙ (λ i. cond (eqb (e i) 0) (cond (u i) 12 0) (e i)));
+    leaves = w ∙ (λ i. written (y * size .w + x) (λ (b : ℕ). kind-is g (size .w) x y (agrees size x y t8s g (length s) e) (passed-derivable size x y t8s g (length s) e .index .column) (flagAt t8s) kind k (modeOf field) b i) s);
   }
 
   -- two outcomes that the promise allows are equal
-  pub unique : (n m : ℕ) (s₁ s₂ : List ℕ) → DeriveOutcome size field x y t8 g untrue s n s₁ → DeriveOutcome size field x y t8 g untrue s m s₂ → (n ≡ m) × (s₁ ≡ s₂)
+  pub unique : (n m : ℕ) (s₁ s₂ : List ℕ) → DeriveOutcome size field x y t8s g untrue s n s₁ → DeriveOutcome size field x y t8s g untrue s m s₂ → (n ≡ m) × (s₁ ≡ s₂)
   unique n m s₁ s₂ a b =
       let e = a .says ∙ sym (b .says) in
-      (e, a .leaves ∙ ap (λ (k : ℕ). cond (eqb k 0) (written (y * size .w + x) (strengthAt (modeOf field) g (size .w) (oneFlag t8) x y) s) s) e ∙ sym (b .leaves))
+      (e, a .leaves ∙ ap (λ (k : ℕ). cond (eqb k 0) (written (y * size .w + x) (strengthAt (modeOf field) g (size .w) (flagAt t8s) x y) s) s) e ∙ sym (b .leaves))
 
 -- ---- what is known of a macroblock changes nothing: a call with a kind or flags that is done leaves what
--- the flagless call leaves, which is done too
-module _ (size : Size) (field : Bool) (x y : ℕ) (t8 : Bool) (g : Grids) (untrue : Bool) (s : List ℕ) where
-  passed-all : answerOf size x y g untrue (length s) ≡ 0 → refusal (deriveChecks size x y g (length s)) ≡ 0
-  passed-all e = go (ℕ-discrete (refusal (deriveChecks size x y g (length s))) 0)
+-- the flagless call leaves, which is done too, whatever flags are set
+module _ (size : Size) (field : Bool) (x y : ℕ) (t8s : List ℕ) (g : Grids) (untrue : Bool) (s : List ℕ) where
+  pub passed-all : answerOf size x y t8s g untrue (length s) ≡ 0 → refusal (deriveChecks size x y t8s g (length s)) ≡ 0
+  passed-all e = go (ℕ-discrete (refusal (deriveChecks size x y t8s g (length s))) 0)
     where
-      cut : cond (eqb (refusal (deriveChecks size x y g (length s))) 0) (cond untrue 12 0) (refusal (deriveChecks size x y g (length s))) ≡ 0
-      cut = sym (answer-cut size x y g (length s) untrue) ∙ e
+      cut : cond (eqb (refusal (deriveChecks size x y t8s g (length s))) 0) (cond untrue 12 0) (refusal (deriveChecks size x y t8s g (length s))) ≡ 0
+      cut = sym (answer-cut size x y t8s g (length s) untrue) ∙ e
 
-      go : Dec (refusal (deriveChecks size x y g (length s)) ≡ 0) → refusal (deriveChecks size x y g (length s)) ≡ 0
+      go : Dec (refusal (deriveChecks size x y t8s g (length s)) ≡ 0) → refusal (deriveChecks size x y t8s g (length s)) ≡ 0
       go (yes h) = h
       go (no h) = rw (ne-eqb _ 0 h) at cut
 
-  pub as-flagless : (n : ℕ) (s₁ s₂ : List ℕ) → DeriveOutcome size field x y t8 g untrue s 0 s₁ → DeriveOutcome size field x y t8 g false s n s₂ → (n ≡ 0) × (s₂ ≡ s₁)
+  pub as-flagless : (n : ℕ) (s₁ s₂ : List ℕ) → DeriveOutcome size field x y t8s g untrue s 0 s₁ → DeriveOutcome size field x y t8s g false s n s₂ → (n ≡ 0) × (s₂ ≡ s₁)
   as-flagless n s₁ s₂ a b =
-      let e : n ≡ 0 = b .says ∙ answer-cut size x y g (length s) false ∙ ap (λ (r : ℕ). cond (eqb r 0) 0 r) (passed-all (sym (a .says))) in
-      (e, b .leaves ∙ ap (λ (k : ℕ). cond (eqb k 0) (written (y * size .w + x) (strengthAt (modeOf field) g (size .w) (oneFlag t8) x y) s) s) e ∙ sym (a .leaves))
+      let e : n ≡ 0 = b .says ∙ answer-cut size x y t8s g (length s) false ∙ ap (λ (r : ℕ). cond (eqb r 0) 0 r) (passed-all (sym (a .says))) in
+      (e, b .leaves ∙ ap (λ (k : ℕ). cond (eqb k 0) (written (y * size .w + x) (strengthAt (modeOf field) g (size .w) (flagAt t8s) x y) s) s) e ∙ sym (a .leaves))
 
--- the kind call's is the flagless one without 8x8
-pub kind-as-flagless : (size : Size) (field : Bool) (r : Request) (g : Grids) (s s₁ s₂ : List ℕ) (n : ℕ)
-    → KindOutcome size field r g s 0 s₁ → PlainOutcome size field (record { x = r .x; y = r .y; t8 = false }) g s n s₂ → (n ≡ 0) × (s₂ ≡ s₁)
-kind-as-flagless size field r g s s₁ s₂ n = as-flagless size field (r .x) (r .y) false g (untrueKind size r g) s n s₁ s₂
+pub kind-as-flagless : (size : Size) (field : Bool) (r : Request) (t8s : List ℕ) (g : Grids) (s s₁ s₂ : List ℕ) (n : ℕ)
+    → KindOutcome size field r t8s g s 0 s₁ → PlainOutcome size field (r .x) (r .y) t8s g s n s₂ → (n ≡ 0) × (s₂ ≡ s₁)
+kind-as-flagless size field r t8s g s s₁ s₂ n = as-flagless size field (r .x) (r .y) t8s g (untrueKind size r g) s n s₁ s₂
 
-pub flags-as-flagless : (size : Size) (field : Bool) (r : Flagged) (g : Grids) (s s₁ s₂ : List ℕ) (n : ℕ)
-    → FlagsOutcome size field r g s 0 s₁ → PlainOutcome size field (record { x = r .x; y = r .y; t8 = r .t8 }) g s n s₂ → (n ≡ 0) × (s₂ ≡ s₁)
-flags-as-flagless size field r g s s₁ s₂ n = as-flagless size field (r .x) (r .y) (r .t8) g (untrueFlags (size .w) r g) s n s₁ s₂
+pub flags-as-flagless : (size : Size) (field : Bool) (r : Flagged) (t8s : List ℕ) (g : Grids) (s s₁ s₂ : List ℕ) (n : ℕ)
+    → FlagsOutcome size field r t8s g s 0 s₁ → PlainOutcome size field (r .x) (r .y) t8s g s n s₂ → (n ≡ 0) × (s₂ ≡ s₁)
+flags-as-flagless size field r t8s g s s₁ s₂ n = as-flagless size field (r .x) (r .y) t8s g (untrueFlags (size .w) r g) s n s₁ s₂

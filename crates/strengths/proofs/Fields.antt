@@ -7,16 +7,16 @@ use native.Mathlib.Omega.{arith}
 use borrow.Author.Tests.{eqb-true, ne-eqb, not-true, lt-ltb, le-ltb}
 use lib.Dec.{eqb, lit≤}
 use Rattle.laws.proofs.Bools.{and-false}
-use Rattle.motion.specs.Grids.{Grids, coded, blkAt}
+use Rattle.motion.specs.Grids.{Grids, blkAt}
 use Rattle.motion.specs.Motion.{differ, interStrength}
 use Rattle.motion.specs.declared.blocks.Blk.{Blk}
 use Rattle.motion.proofs.Limits.{differ-more}
 use Rattle.strengths.specs.Blocks.{ownBlock}
 use Rattle.strengths.specs.Kinds.{isKind}
-use Rattle.strengths.specs.Strength.{vertical, edge, segment, qBlock, pBlock, border, frame, field, outerIntra, between, skipped, strengthAt}
+use Rattle.strengths.specs.Strength.{vertical, edge, segment, qBlock, pBlock, border, frame, field, outerIntra, coded, between, skipped, strengthAt}
 use Rattle.strengths.specs.declared.kinds.MbKind.the-variants.{Intra}
 use Rattle.strengths.specs.declared.kinds.Mode.{Mode}
-use Rattle.strengths.proofs.ByKind.{Own, q-own, at}
+use Rattle.strengths.proofs.OwnBlocks.{Own, at, q-own}
 
 -- ---- an outer edge inside the picture, beside an intra block: in any mode
 abbrev bothInter : Grids → ℕ → ℕ → ℕ → ℕ → Bool
@@ -28,7 +28,7 @@ module _ (mode : Mode) (g : Grids) (w : ℕ) (t8s : ℕ → Bool) (x y : ℕ) wh
   outer k e b h =
       let p = blkAt g (pBlock w x y k) in
       let q = blkAt g (qBlock w x y k) in
-      let c = coded g (pBlock w x y k) || coded g (qBlock w x y k) in
+      let c = coded g w t8s (pBlock w x y k) || coded g w t8s (qBlock w x y k) in
       let t = and-false (t8s (y * w + x)) (ap (λ (n : ℕ). eqb (n % 2) 1) e) in
       λ i. cond (b i || t i) 0 (cond (h i) (interStrength (mode .limit) c p q) (cond (eqb (e i) 0) (outerIntra mode (vertical k)) 3))
 
@@ -49,7 +49,7 @@ module _ (mode : Mode) (g : Grids) (w : ℕ) (t8s : ℕ → Bool) (x y : ℕ) wh
 -- ---- the outer edges of an intra macroblock, and the edges that it shares with those below it and to its
 -- right, in a field: horizontal ones have 3, vertical ones 4
 module _ (g : Grids) (w : ℕ) (t8s : ℕ → Bool) (x y : ℕ) (intra : isKind g w x y Intra ≡ true) where
-  own-intra : (i : ℕ) → Own w x y i → blkAt g i .inter ≡ false
+  own-intra : (i : ℕ) {r b : ℕ} → Own w x y r b i → blkAt g i .inter ≡ false
   own-intra i o = not-true _ (at w x y i (λ j. not (blkAt g j .inter)) intra o)
 
   module _ (s : ℕ) (four : s < 4) where
@@ -59,14 +59,14 @@ module _ (g : Grids) (w : ℕ) (t8s : ℕ → Bool) (x y : ℕ) (intra : isKind 
       λ h. left-intra field g w t8s x y s four h (and-false (blkAt g (pBlock w x y s) .inter) (own-intra _ (q-own w x y s))),
     )
 
-    above : Own w x y (pBlock w x (y + 1) (16 + s))
-    above = record { r = 3; c = s; row = lit≤ tt; col = four; is = go (vertical (16 + s)) (le-ltb (16 + s) 16 (omega arith)) (edge (16 + s)) (omega arith) }
+    above : Own w x y 3 s (pBlock w x (y + 1) (16 + s))
+    above = record { row = lit≤ tt; col = four; is = go (vertical (16 + s)) (le-ltb (16 + s) 16 (omega arith)) (edge (16 + s)) (omega arith) }
       where
         go : (v : Bool) → v ≡ false → (e : ℕ) → e ≡ 0 → ownBlock w x (y + 1) (cond v (segment (16 + s)) e) (cond v e (segment (16 + s))) - cond v 1 (4 * w) ≡ ownBlock w x y 3 s
         go v f e z = rw (f, z) (omega arith)
 
-    beside : Own w x y (pBlock w (x + 1) y s)
-    beside = record { r = s; c = 3; row = four; col = lit≤ tt; is = go (vertical s) (lt-ltb s 16 (omega arith)) (edge s) (omega arith) (segment s) (omega arith) }
+    beside : Own w x y s 3 (pBlock w (x + 1) y s)
+    beside = record { row = four; col = lit≤ tt; is = go (vertical s) (lt-ltb s 16 (omega arith)) (edge s) (omega arith) (segment s) (omega arith) }
       where
         go : (v : Bool) → v ≡ true → (e : ℕ) → e ≡ 0 → (t : ℕ) → t ≡ s → ownBlock w (x + 1) y (cond v t e) (cond v e t) - cond v 1 (4 * w) ≡ ownBlock w x y s 3
         go v f e z t u = rw (f, z, u) (omega arith)
@@ -94,7 +94,7 @@ module _ (g : Grids) (w : ℕ) (t8s : ℕ → Bool) (x y k : ℕ) where
   q = blkAt g (qBlock w x y k)
 
   abbrev c : Bool
-  c = coded g (pBlock w x y k) || coded g (qBlock w x y k)
+  c = coded g w t8s (pBlock w x y k) || coded g w t8s (qBlock w x y k)
 
   pub field-same : FieldFrame k c p q (strengthAt field g w t8s x y k) (strengthAt frame g w t8s x y k)
   unfolding strengthAt between interStrength

@@ -9,7 +9,7 @@ use lib.Dec.{eqb, ltb}
 use lib.ListN.{getD}
 use Rattle.laws.specs.Some.{some, every}
 use Rattle.laws.proofs.Some.{some-not, every-same, every-and, every-not}
-use Rattle.motion.specs.Grids.{Grids, coded, blockRead, blkAt}
+use Rattle.motion.specs.Grids.{Grids, counted, blockRead, blkAt}
 use Rattle.motion.specs.Motion.{sameMotion}
 use Rattle.strengths.specs.Blocks.{origin, ownBlock, leftBlock, aboveBlock}
 use Rattle.strengths.specs.Checks.{differs, disagree}
@@ -25,8 +25,8 @@ use Rattle.laws.proofs.Bools.{or-false}
 abbrev pub oneMotion : Grids → ℕ → ℕ → ℕ → Bool
 oneMotion g w x y = everyOwn w x y (λ i. sameMotion (blkAt g i) (blkAt g (origin w x y)))
 
-abbrev pub someCoded : Grids → ℕ → ℕ → ℕ → Bool
-someCoded g w x y = some 4 (λ r. some 4 (λ c. ltb 0 (getD (g .nnz) (ownBlock w x y r c) 0)))
+abbrev pub someCounted : Grids → ℕ → ℕ → ℕ → Bool
+someCounted g w x y = some 4 (λ r. some 4 (λ c. ltb 0 (getD (g .nnz) (ownBlock w x y r c) 0)))
 
 -- ---- a test over the 4 by 4
 own-and : (w x y : ℕ) (f h : ℕ → Bool) → everyOwn w x y (λ i. f i && h i) ≡ (everyOwn w x y f && everyOwn w x y h)
@@ -41,7 +41,7 @@ ltb-not : (n : ℕ) → not (eqb n 0) ≡ ltb 0 n
 ltb-not zero = refl
 ltb-not (suc n) = rw (ne-eqb (suc n) 0 (λ e. omega arith), lt-ltb 0 (suc n) (omega arith))
 
-bare-is : (g : Grids) (w x y : ℕ) → everyOwn w x y (λ i. not (coded g i)) ≡ not (someCoded g w x y)
+bare-is : (g : Grids) (w x y : ℕ) → everyOwn w x y (λ i. not (counted (g .nnz) i)) ≡ not (someCounted g w x y)
 bare-is g w x y =
     every-same 4 _ _ (λ r l. every-same 4 _ _ (λ c m. ap not (ltb-not (getD (g .nnz) (ownBlock w x y r c) 0))) ∙ every-not 4 _)
     ∙ every-not 4 _
@@ -68,19 +68,19 @@ module _ (g : Grids) (w x y : ℕ) (agree : disagree (g .inter) w x y ≡ false)
   unfolding uniform
   uniform-is = own-and w x y (λ i. blkAt g i .inter) (λ i. sameMotion (blkAt g i) (blkAt g (origin w x y))) ∙ ap (λ (b : Bool). b && oneMotion g w x y) inter-is
 
-  pub flat-is : flat g w x y ≡ (firstInter (g .inter) w x y && oneMotion g w x y && not (someCoded g w x y))
+  pub flat-is : flat g w x y ≡ (firstInter (g .inter) w x y && oneMotion g w x y && not (someCounted g w x y))
   unfolding flat
   flat-is = λ i. uniform-is i && bare-is g w x y i
 
   -- a kind by what the code looks at
-  pub kind-by : (kind : MbKind) → kindBy kind (firstInter (g .inter) w x y) (oneMotion g w x y) (someCoded g w x y) ≡ isKind g w x y kind
+  pub kind-by : (kind : MbKind) → kindBy kind (firstInter (g .inter) w x y) (oneMotion g w x y) (someCounted g w x y) ≡ isKind g w x y kind
   kind-by Intra = sym intra-is
   kind-by Skip = sym flat-is
   kind-by InterUniform = sym uniform-is
   kind-by Inter = sym inter-is
 
   -- ---- what a caller says: by what the code looks at, and where it says nothing
-  pub known-by : (known : Known) → untrueBy known (firstInter (g .inter) w x y) (oneMotion g w x y) (someCoded g w x y) ≡ untrueKnown known g w x y
+  pub known-by : (known : Known) → untrueBy known (firstInter (g .inter) w x y) (oneMotion g w x y) (someCounted g w x y) ≡ untrueKnown known g w x y
   known-by (Stated kind) = ap not (kind-by kind)
   known-by (Flags a u) = sym (λ i. (a && not (flat-is i)) || (u && not (uniform-is i)))
 

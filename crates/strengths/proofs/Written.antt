@@ -12,10 +12,10 @@ use lib.Seq.{getD-set-same, getD-set-other}
 use Rattle.laws.specs.Loop.{upTo}
 use Rattle.laws.proofs.Cond.{cond-both}
 use Rattle.laws.proofs.Loop.{upTo-keeps}
-use Rattle.motion.specs.Grids.{Grids, coded, blkAt}
+use Rattle.motion.specs.Grids.{Grids, blkAt}
 use Rattle.motion.specs.declared.blocks.Blk.{Blk}
 use Rattle.motion.proofs.Laws.{strength-le}
-use Rattle.strengths.specs.Strength.{vertical, edge, qBlock, pBlock, border, modeOf, skipped, intraStrength, between, strengthAt, written}
+use Rattle.strengths.specs.Strength.{vertical, edge, qBlock, pBlock, border, modeOf, skipped, intraStrength, coded, between, strengthAt, written}
 use Rattle.strengths.specs.declared.kinds.Mode.{Mode}
 
 -- ---- n values from `first` on
@@ -72,7 +72,7 @@ pub strength-most : (mode : Mode) (g : Grids) (w : ℕ) (t8s : ℕ → Bool) (x 
 unfolding strengthAt
 strength-most mode g w t8s x y k h =
     cond-both (λ (n : ℕ). n ≤ 4) (border x y k || skipped (t8s (y * w + x)) k) {x = 0} (lit≤ tt)
-    (between-most (mode .limit) (intraStrength mode k) (coded g (pBlock w x y k) || coded g (qBlock w x y k)) (blkAt g (pBlock w x y k)) (blkAt g (qBlock w x y k)) (intra-most mode k h))
+    (between-most (mode .limit) (intraStrength mode k) (coded g w t8s (pBlock w x y k) || coded g w t8s (qBlock w x y k)) (blkAt g (pBlock w x y k)) (blkAt g (qBlock w x y k)) (intra-most mode k h))
 
 -- .. as it is in frames and in fields
 upper-most : (field : Bool) → modeOf field .upper ≤ 4

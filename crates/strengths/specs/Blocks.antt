@@ -1,7 +1,9 @@
 -- The 4x4 blocks that the strengths of macroblock (x, y) read, as indices into grids with rows of 4 * w
 -- blocks: docs/RULES.md, "Sizes and layouts" and "What each call reads". They are its own 16, four to the
--- left where x > 0, four above where y > 0: the blocks beside an edge in ITU-T H.264, clause 8.7.2.1.
-use Prim.Native.Nat.{ℕ, _+_, _-_, _*_}
+-- left where x > 0, four above where y > 0: the blocks beside an edge in ITU-T H.264, clause 8.7.2.1. Counts
+-- are also read of the other blocks of an 8x8 block (`inEight`). In a picture 2 macroblocks wide block 13 is
+-- in row 1 and column 5: in macroblock 1, and in the 8x8 block of blocks 4, 5, 12, 13 (proofs/Examples).
+use Prim.Native.Nat.{ℕ, _+_, _-_, _*_, _/_, _%_}
 use mathlib.Core.Bool.{Bool, _&&_, _||_}
 use lib.Dec.{ltb}
 use Rattle.laws.specs.Some.{some}
@@ -31,3 +33,17 @@ someRead w x y f =
     some 4 (λ r. some 4 (λ c. f (ownBlock w x y r c)))
     || (ltb 0 x && some 4 (λ k. f (leftBlock w x y k)))
     || (ltb 0 y && some 4 (λ k. f (aboveBlock w x y k)))
+
+-- ---- the row and the column of block i among the picture's, the index of the macroblock that holds it, and
+-- the block in row r and column c of the 8x8 block that holds it: 8x8 blocks begin in even rows and columns
+abbrev pub blockRow : ℕ → ℕ → ℕ
+blockRow w i = i / (4 * w)
+
+abbrev pub blockColumn : ℕ → ℕ → ℕ
+blockColumn w i = i % (4 * w)
+
+abbrev pub macroblockOf : ℕ → ℕ → ℕ
+macroblockOf w i = blockRow w i / 4 * w + blockColumn w i / 4
+
+abbrev pub inEight : ℕ → ℕ → ℕ → ℕ → ℕ
+inEight w i r c = (blockRow w i / 2 * 2 + r) * (4 * w) + (blockColumn w i / 2 * 2 + c)

@@ -1,17 +1,19 @@
 -- Apart: no promise to a caller of the public calls rests on it. How the code goes about docs/RULES.md,
 -- "Strengths": what the own blocks show, the kind that follows, and the strengths by that kind, without
 -- comparing motion where the kind tells. That they are `strengthAt` is the law `kind-is`.
-use Prim.Native.Nat.{ℕ}
+use Prim.Native.Nat.{ℕ, _*_}
 use mathlib.Core.Bool.{Bool, true, cond, not, _&&_, _||_}
 use mathlib.Core.List.{List}
 use lib.Dec.{eqb}
 use lib.ListN.{getD}
-use Rattle.motion.specs.Grids.{Grids, coded, blkAt}
+use Rattle.motion.specs.Grids.{Grids, blkAt}
 use Rattle.motion.specs.Motion.{interStrength}
 use Rattle.motion.specs.declared.blocks.Blk.{Blk}
 use Rattle.strengths.specs.Blocks.{origin}
+use Rattle.strengths.specs.Eights.{acrossFlag, codedBy, pOdd, qOdd}
 use Rattle.strengths.specs.Kinds.{uniform, flat, isKind}
 use Rattle.strengths.specs.Strength.{vertical, edge, qBlock, pBlock, border, skipped, outerIntra, between}
+use Rattle.strengths.specs.declared.eights.Transforms.{Transforms}
 use Rattle.strengths.specs.declared.kinds.Known.{Known}
 use Rattle.strengths.specs.declared.kinds.Known.the-variants.{Stated, Flags}
 use Rattle.strengths.specs.declared.kinds.Mode.{Mode}
@@ -23,12 +25,12 @@ abbrev pub firstInter : List ℕ → ℕ → ℕ → ℕ → Bool
 firstInter inter w x y = eqb (getD inter (origin w x y) 0) 1
 
 -- a kind is true of own blocks that agree on inter, where the first is inter, all 16 have one motion, some of
--- them has coefficients
+-- them has a count
 abbrev pub kindBy : MbKind → Bool → Bool → Bool → Bool
-kindBy Intra first same coded = not first
-kindBy Skip first same coded = first && same && not coded
-kindBy InterUniform first same coded = first && same
-kindBy Inter first same coded = first
+kindBy Intra first same counted = not first
+kindBy Skip first same counted = first && same && not counted
+kindBy InterUniform first same counted = first && same
+kindBy Inter first same counted = first
 
 -- the kind that true flags amount to
 abbrev pub kindOf : Bool → Bool → Bool → MbKind
@@ -41,8 +43,8 @@ saysAny (Stated kind) = true
 saysAny (Flags flat uniform) = flat || uniform
 
 abbrev pub untrueBy : Known → Bool → Bool → Bool → Bool
-untrueBy (Stated kind) first same coded = not (kindBy kind first same coded)
-untrueBy (Flags flat uniform) first same coded = (flat && not (first && same && not coded)) || (uniform && not (first && same))
+untrueBy (Stated kind) first same counted = not (kindBy kind first same counted)
+untrueBy (Flags flat uniform) first same counted = (flat && not (first && same && not counted)) || (uniform && not (first && same))
 
 abbrev pub untrueKnown : Known → Grids → ℕ → ℕ → ℕ → Bool
 untrueKnown (Stated kind) g w x y = not (isKind g w x y kind)
@@ -64,11 +66,12 @@ abbrev pub acrossBy : MbKind → Mode → Bool → Bool → Bool → Blk → Blk
 acrossBy kind mode outer left coded p q =
     cond outer (between (mode .limit) (outerIntra mode left) coded p q) (inside kind (mode .limit) coded p q)
 
--- t8 is the macroblock's own flag
-unfoldable pub strengthBy : MbKind → Mode → Grids → ℕ → Bool → ℕ → ℕ → ℕ → ℕ
-strengthBy kind mode g w t8 x y k =
+-- t has the flags of the macroblock and of its neighbours
+unfoldable pub strengthBy : MbKind → Mode → Grids → ℕ → Transforms → ℕ → ℕ → ℕ → ℕ
+strengthBy kind mode g w t x y k =
     cond
-    (border x y k || skipped t8 k)
+    (border x y k || skipped (t .own) k)
     0
     (acrossBy kind mode (eqb (edge k) 0) (vertical k)
-    (coded g (pBlock w x y k) || coded g (qBlock w x y k)) (blkAt g (pBlock w x y k)) (blkAt g (qBlock w x y k)))
+    (codedBy (g .nnz) (4 * w) (acrossFlag t k) (pOdd k) (pBlock w x y k) || codedBy (g .nnz) (4 * w) (t .own) (qOdd k) (qBlock w x y k))
+    (blkAt g (pBlock w x y k)) (blkAt g (qBlock w x y k)))

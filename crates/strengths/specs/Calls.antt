@@ -1,7 +1,7 @@
 -- What the three strength calls promise: one answer and one final content of the strengths grid, for every
--- input. The grids are only read. The numbers are those of docs/RULES.md, "Answers", the strengths those of
--- ITU-T H.264, clause 8.7.2.1 (`strengthAt`): of a field where `field` is true, else of a frame. No check and
--- no answer depends on which.
+-- input. The flags t8s and the grids g are only read. The numbers are those of docs/RULES.md, "Answers", the
+-- strengths those of ITU-T H.264, clause 8.7.2.1 (`strengthAt`): of a field where `field` is true, else of a
+-- frame. No check and no answer depends on which.
 use Prim.Native.Nat.{ℕ, _+_, _*_}
 use mathlib.Core.Path.{_≡_}
 use mathlib.Core.Bool.{Bool, false, cond, not, _&&_, _||_}
@@ -10,29 +10,34 @@ use lib.Dec.{eqb}
 use lib.ListN.{length}
 use Rattle.laws.specs.Refusal.{refusal}
 use Rattle.motion.specs.Grids.{Grids}
-use Rattle.strengths.specs.Checks.{badStrengths, badBlocks, badInter, badRefs, disagree}
+use Rattle.sizes.specs.Entries.{flagAt}
 use Rattle.sizes.specs.Sizes.{badSize, outsideOf}
+use Rattle.strengths.specs.Checks.{badByMacroblock, badBlocks, badInter, badFlags, badRefs, disagree}
 use Rattle.strengths.specs.Kinds.{isKind, flat, uniform}
 use Rattle.strengths.specs.Strength.{modeOf, strengthAt, written}
 use Rattle.sizes.specs.declared.Size.{Size}
 use Rattle.strengths.specs.declared.kinds.Request.{Request}
 use Rattle.strengths.specs.declared.kinds.Flagged.{Flagged}
-use Rattle.strengths.specs.declared.kinds.Plain.{Plain}
 
 -- ---- checks 1 to 11; n is the length of the strengths grid
-abbrev pub lengthChecks : Size → ℕ → ℕ → Grids → ℕ → List (ℕ × Bool)
-lengthChecks size x y g n =
-    (1, badSize size) ∷ (2, outsideOf size x y) ∷ (4, badStrengths size n) ∷ (5, badBlocks (16 * (size .w * size .h)) g) ∷ []
+abbrev pub lengthChecks : Size → ℕ → ℕ → List ℕ → Grids → ℕ → List (ℕ × Bool)
+lengthChecks size x y t8s g n =
+    (1, badSize size)
+    ∷ (2, outsideOf size x y)
+    ∷ (4, badByMacroblock (size .w * size .h) n (length t8s))
+    ∷ (5, badBlocks (16 * (size .w * size .h)) g)
+    ∷ []
 
-abbrev pub blockChecks : Size → ℕ → ℕ → Grids → List (ℕ × Bool)
-blockChecks size x y g = (7, badInter g (size .w) x y) ∷ (10, badRefs g (size .w) x y) ∷ (11, disagree (g .inter) (size .w) x y) ∷ []
+abbrev pub valueChecks : Size → ℕ → ℕ → List ℕ → Grids → List (ℕ × Bool)
+valueChecks size x y t8s g =
+    (7, badInter g (size .w) x y || badFlags t8s (size .w) x y) ∷ (10, badRefs g (size .w) x y) ∷ (11, disagree (g .inter) (size .w) x y) ∷ []
 
-abbrev pub deriveChecks : Size → ℕ → ℕ → Grids → ℕ → List (ℕ × Bool)
-deriveChecks size x y g n = lengthChecks size x y g n ++ blockChecks size x y g
+abbrev pub deriveChecks : Size → ℕ → ℕ → List ℕ → Grids → ℕ → List (ℕ × Bool)
+deriveChecks size x y t8s g n = lengthChecks size x y t8s g n ++ valueChecks size x y t8s g
 
 -- ---- the answer: `untrue` is check 12
-unfoldable pub answerOf : Size → ℕ → ℕ → Grids → Bool → ℕ → ℕ
-answerOf size x y g untrue n = refusal (deriveChecks size x y g n ++ ((12, untrue) ∷ []))
+unfoldable pub answerOf : Size → ℕ → ℕ → List ℕ → Grids → Bool → ℕ → ℕ
+answerOf size x y t8s g untrue n = refusal (deriveChecks size x y t8s g n ++ ((12, untrue) ∷ []))
 
 -- the kind, or a flag that is set, is not true of the grids
 abbrev pub untrueKind : Size → Request → Grids → Bool
@@ -41,21 +46,17 @@ untrueKind size r g = not (isKind g (size .w) (r .x) (r .y) (r .kind))
 abbrev pub untrueFlags : ℕ → Flagged → Grids → Bool
 untrueFlags w r g = (r .flat && not (flat g w (r .x) (r .y))) || (r .uniform && not (uniform g w (r .x) (r .y)))
 
--- a call is told its own macroblock's flag: it stands for all
-abbrev pub oneFlag : Bool → ℕ → Bool
-oneFlag t8 i = t8
-
 -- ---- an outcome: the answer n, and the grid before and after. A refusal leaves it as it was; else the 32
 -- bytes of the macroblock are written and no other
-pub record DeriveOutcome (size : Size) (field : Bool) (x y : ℕ) (t8 : Bool) (g : Grids) (untrue : Bool) (s : List ℕ) (n : ℕ) (s′ : List ℕ) : Type 0 where
-  pub says : n ≡ answerOf size x y g untrue (length s)
-  pub leaves : s′ ≡ cond (eqb n 0) (written (y * size .w + x) (strengthAt (modeOf field) g (size .w) (oneFlag t8) x y) s) s
+pub record DeriveOutcome (size : Size) (field : Bool) (x y : ℕ) (t8s : List ℕ) (g : Grids) (untrue : Bool) (s : List ℕ) (n : ℕ) (s′ : List ℕ) : Type 0 where
+  pub says : n ≡ answerOf size x y t8s g untrue (length s)
+  pub leaves : s′ ≡ cond (eqb n 0) (written (y * size .w + x) (strengthAt (modeOf field) g (size .w) (flagAt t8s) x y) s) s
 
-abbrev pub KindOutcome : Size → Bool → Request → Grids → List ℕ → ℕ → List ℕ → Type 0
-KindOutcome size field r g = DeriveOutcome size field (r .x) (r .y) false g (untrueKind size r g)
+abbrev pub KindOutcome : Size → Bool → Request → List ℕ → Grids → List ℕ → ℕ → List ℕ → Type 0
+KindOutcome size field r t8s g = DeriveOutcome size field (r .x) (r .y) t8s g (untrueKind size r g)
 
-abbrev pub FlagsOutcome : Size → Bool → Flagged → Grids → List ℕ → ℕ → List ℕ → Type 0
-FlagsOutcome size field r g = DeriveOutcome size field (r .x) (r .y) (r .t8) g (untrueFlags (size .w) r g)
+abbrev pub FlagsOutcome : Size → Bool → Flagged → List ℕ → Grids → List ℕ → ℕ → List ℕ → Type 0
+FlagsOutcome size field r t8s g = DeriveOutcome size field (r .x) (r .y) t8s g (untrueFlags (size .w) r g)
 
-abbrev pub PlainOutcome : Size → Bool → Plain → Grids → List ℕ → ℕ → List ℕ → Type 0
-PlainOutcome size field r g = DeriveOutcome size field (r .x) (r .y) (r .t8) g false
+abbrev pub PlainOutcome : Size → Bool → ℕ → ℕ → List ℕ → Grids → List ℕ → ℕ → List ℕ → Type 0
+PlainOutcome size field x y t8s g = DeriveOutcome size field x y t8s g false

@@ -2,18 +2,18 @@
 use Prim.Native.Nat.{ℕ, _-_, _*_}
 use mathlib.Core.Bool.{Bool, not, _&&_, _||_}
 use mathlib.Core.List.{List}
-use lib.Dec.{eqb, ltb, leb}
+use lib.Dec.{eqb, ltb}
 use lib.IntN.{ℤ, negsuc}
 use lib.ListN.{length, getD}
 use lib.Signed.{ltZ}
 use Rattle.laws.specs.Some.{some}
+use Rattle.sizes.specs.Entries.{badFlagCount, badFlag, badNear}
 use Rattle.motion.specs.Grids.{Grids, refAt}
 use Rattle.strengths.specs.Blocks.{origin, ownBlock, leftBlock, aboveBlock, someRead}
-use Rattle.sizes.specs.declared.Size.{Size}
 
--- 4: the strengths grid has the wrong length
-abbrev pub badStrengths : Size → ℕ → Bool
-badStrengths size n = not (eqb n (32 * (size .w * size .h)))
+-- 4: the strengths grid has the wrong length n, or that of the flags the wrong length t8s
+abbrev pub badByMacroblock : ℕ → ℕ → ℕ → Bool
+badByMacroblock area n t8s = not (eqb n (32 * area)) || badFlagCount area t8s
 
 -- 5: a 4x4 grid has the wrong length, or just one list 1 grid is empty. n is the number of blocks
 abbrev pub badLengths : ℕ → ℕ → ℕ → ℕ → ℕ → ℕ → ℕ → Bool
@@ -27,9 +27,13 @@ badLengths n inter nnz ref0 mv0 ref1 mv1 =
 abbrev pub badBlocks : ℕ → Grids → Bool
 badBlocks n g = badLengths n (length (g .inter)) (length (g .nnz)) (length (g .ref0)) (length (g .mv0)) (length (g .ref1)) (length (g .mv1))
 
--- 7: an inter byte that is read is not 0 or 1
+-- 7: an inter byte that is read is not 0 or 1; nor is a flag, of the macroblock or of its left or upper
+-- neighbour, unless the grid of flags is empty
 abbrev pub badInter : Grids → ℕ → ℕ → ℕ → Bool
 badInter g w x y = someRead w x y (λ i. ltb 1 (getD (g .inter) i 0))
+
+abbrev pub badFlags : List ℕ → ℕ → ℕ → ℕ → Bool
+badFlags t8s w x y = not (eqb (length t8s) 0) && badNear badFlag t8s w x y
 
 -- 10: a reference number that is read is below -1, in a list that is lent
 abbrev pub belowNone : List ℤ → ℕ → Bool

@@ -3,7 +3,7 @@
 use Prim.Native.Nat.{ℕ}
 use mathlib.Core.Bool.{Bool, not, _&&_}
 use Rattle.laws.specs.Some.{every}
-use Rattle.motion.specs.Grids.{Grids, coded, blkAt}
+use Rattle.motion.specs.Grids.{Grids, counted, blkAt}
 use Rattle.motion.specs.Motion.{sameMotion}
 use Rattle.strengths.specs.Blocks.{origin, ownBlock}
 use Rattle.strengths.specs.declared.kinds.MbKind.{MbKind}
@@ -16,8 +16,9 @@ everyOwn w x y f = every 4 (λ r. every 4 (λ c. f (ownBlock w x y r c)))
 unfoldable pub uniform : Grids → ℕ → ℕ → ℕ → Bool
 uniform g w x y = everyOwn w x y (λ i. blkAt g i .inter && sameMotion (blkAt g i) (blkAt g (origin w x y)))
 
+-- by own counts: where all 16 are 0, so are those of every 8x8 block
 unfoldable pub flat : Grids → ℕ → ℕ → ℕ → Bool
-flat g w x y = uniform g w x y && everyOwn w x y (λ i. not (coded g i))
+flat g w x y = uniform g w x y && everyOwn w x y (λ i. not (counted (g .nnz) i))
 
 -- the kind is true of the grids
 abbrev pub isKind : Grids → ℕ → ℕ → ℕ → MbKind → Bool

@@ -1,7 +1,9 @@
 pub mod Blocks
 pub mod ByKind
 pub mod Checks
+pub mod Eights
 pub mod Inner
 pub mod Kinds
+pub mod Reads
 pub mod Strength
 pub mod Calls

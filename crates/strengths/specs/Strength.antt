@@ -9,10 +9,11 @@ use mathlib.Core.List.{List}
 use lib.Dec.{eqb, ltb}
 use lib.ListN.{set}
 use Rattle.laws.specs.Loop.{upTo}
-use Rattle.motion.specs.Grids.{Grids, coded, blkAt}
+use Rattle.laws.specs.Some.{some}
+use Rattle.motion.specs.Grids.{Grids, counted, blkAt}
 use Rattle.motion.specs.Motion.{interStrength}
 use Rattle.motion.specs.declared.blocks.Blk.{Blk}
-use Rattle.strengths.specs.Blocks.{ownBlock}
+use Rattle.strengths.specs.Blocks.{ownBlock, macroblockOf, inEight}
 use Rattle.strengths.specs.declared.kinds.Mode.{Mode}
 
 -- ---- byte k: its edge, the blocks beside it, and whether there is a neighbour across an outer edge
@@ -64,22 +65,29 @@ outerIntra mode left = cond left 4 (mode .upper)
 abbrev pub intraStrength : Mode → ℕ → ℕ
 intraStrength mode k = cond (eqb (edge k) 0) (outerIntra mode (vertical k)) 3
 
+-- ---- t8s tells of each macroblock, by its index, whether it is 8x8 (transform_size_8x8_flag). Block i is
+-- coded where it has coefficients; in an 8x8 macroblock, where its 8x8 block has: a count in any of the four
+-- blocks counts for all four
+unfoldable pub coded : Grids → ℕ → (ℕ → Bool) → ℕ → Bool
+coded g w t8s i =
+    cond (t8s (macroblockOf w i)) (some 2 (λ r. some 2 (λ c. counted (g .nnz) (inEight w i r c)))) (counted (g .nnz) i)
+
 -- between inter blocks by coefficients and motion, else the strength `intra`
 unfoldable pub between : ℕ → ℕ → Bool → Blk → Blk → ℕ
 between limit intra coded p q = cond (p .inter && q .inter) (interStrength limit coded p q) intra
 
 -- byte k, between the blocks of indices p and q
-abbrev pub strengthBetween : Mode → Grids → ℕ → ℕ → ℕ → ℕ
-strengthBetween mode g k p q = between (mode .limit) (intraStrength mode k) (coded g p || coded g q) (blkAt g p) (blkAt g q)
+abbrev pub strengthBetween : Mode → Grids → ℕ → (ℕ → Bool) → ℕ → ℕ → ℕ → ℕ
+strengthBetween mode g w t8s k p q =
+    between (mode .limit) (intraStrength mode k) (coded g w t8s p || coded g w t8s q) (blkAt g p) (blkAt g q)
 
 -- edges 1 and 3 are no transform edges of an 8x8 macroblock
 abbrev pub skipped : Bool → ℕ → Bool
 skipped t8 k = t8 && eqb (edge k % 2) 1
 
--- t8s tells of each macroblock, by its index, whether it is 8x8
 unfoldable pub strengthAt : Mode → Grids → ℕ → (ℕ → Bool) → ℕ → ℕ → ℕ → ℕ
 strengthAt mode g w t8s x y k =
-    cond (border x y k || skipped (t8s (y * w + x)) k) 0 (strengthBetween mode g k (pBlock w x y k) (qBlock w x y k))
+    cond (border x y k || skipped (t8s (y * w + x)) k) 0 (strengthBetween mode g w t8s k (pBlock w x y k) (qBlock w x y k))
 
 -- the strengths grid with the 32 bytes of macroblock i written
 unfoldable pub written : ℕ → (ℕ → ℕ) → List ℕ → List ℕ

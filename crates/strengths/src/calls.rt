@@ -14,9 +14,9 @@ ghost use Rattle.strengths.specs.Calls.{DeriveOutcome, KindOutcome, Flag
 use crate::checks::refuse_derive;
 use crate::derive::derive;
 use crate::derive::own_same;
+use crate::eights::transforms_at;
 use crate::kinds::Flagged;
 use crate::kinds::Known;
-use crate::kinds::Plain;
 use crate::kinds::Request;
 use crate::kinds::kind_known;
 use crate::kinds::mode_of;
@@ -50,8 +50,8 @@ fn untrue_known<'a>(
     }
     let at = 16 * (y * w) + 4 * x;
     let same = own_same(inter, ref0, mv0, ref1, mv1, at, 4 * w);
-    let coded = own_have(Sought::Above(0), nnz, ref0, at, 4 * w);
-    untrue_by(known, inter[at] == 1, same, coded)
+    let counted = own_have(Sought::Above(0), nnz, ref0, at, 4 * w);
+    untrue_by(known, inter[at] == 1, same, counted)
 }
 
 // Whether the first of the own blocks is inter.
@@ -68,8 +68,8 @@ fn derive_known<'a>(
     field: bool,
     x: usize,
     y: usize,
-    t8: bool,
     known: Known,
+    t8s: &[u8],
     inter: &[u8],
     nnz: &[u8],
     ref0: &[i8],
@@ -78,13 +78,14 @@ fn derive_known<'a>(
     mv1: &'a [i16],
     strengths: &mut [u8],
 ) -> u32
-    ensures { λ n. ⌜ DeriveOutcome size field x y t8 (grids (now (inter .entry)) (now (nnz .entry)) (now (ref0 .entry)) (now (mv0 .entry)) (now (ref1 .entry)) (now (mv1 .entry))) (untrueKnown known (grids (now (inter .entry)) (now (nnz .entry)) (now (ref0 .entry)) (now (mv0 .entry)) (now (ref1 .entry)) (now (mv1 .entry))) (size .w) x y) (now (strengths .entry)) n (now (strengths .exit)) ⌝ }
+    ensures { λ n. ⌜ DeriveOutcome size field x y (now (t8s .entry)) (grids (now (inter .entry)) (now (nnz .entry)) (now (ref0 .entry)) (now (mv0 .entry)) (now (ref1 .entry)) (now (mv1 .entry))) (untrueKnown known (grids (now (inter .entry)) (now (nnz .entry)) (now (ref0 .entry)) (now (mv0 .entry)) (now (ref1 .entry)) (now (mv1 .entry))) (size .w) x y) (now (strengths .entry)) n (now (strengths .exit)) ⌝ }
 {
     let w = size.w;
     let n = refuse_derive(
         size,
         x,
         y,
+        t8s,
         strengths.len(),
         inter,
         nnz,
@@ -101,10 +102,11 @@ fn derive_known<'a>(
     }
     let kind = kind_known(known, first_inter(inter, w, x, y));
     let mode = mode_of(field);
+    let t = transforms_at(t8s, w, x, y);
     derive(
         kind,
         mode,
-        t8,
+        t,
         w,
         x,
         y,
@@ -119,11 +121,12 @@ fn derive_known<'a>(
     0
 }
 
-// Strengths of a macroblock whose kind is known; its transform counts as 4x4.
+// Strengths of a macroblock whose kind is known.
 pub fn derive_mb_kind<'a>(
     size: Size,
     field: bool,
     r: Request,
+    t8s: &[u8],
     inter: &[u8],
     nnz: &[u8],
     ref0: &[i8],
@@ -132,7 +135,7 @@ pub fn derive_mb_kind<'a>(
     mv1: &'a [i16],
     strengths: &mut [u8],
 ) -> u32
-    ensures { λ n. ⌜ KindOutcome size field r (grids (now (inter .entry)) (now (nnz .entry)) (now (ref0 .entry)) (now (mv0 .entry)) (now (ref1 .entry)) (now (mv1 .entry))) (now (strengths .entry)) n (now (strengths .exit)) ⌝ }
+    ensures { λ n. ⌜ KindOutcome size field r (now (t8s .entry)) (grids (now (inter .entry)) (now (nnz .entry)) (now (ref0 .entry)) (now (mv0 .entry)) (now (ref1 .entry)) (now (mv1 .entry))) (now (strengths .entry)) n (now (strengths .exit)) ⌝ }
 {
     let kind = r.kind;
     let known = Known::Stated(kind);
@@ -141,8 +144,8 @@ pub fn derive_mb_kind<'a>(
         field,
         r.x,
         r.y,
-        false,
         known,
+        t8s,
         inter,
         nnz,
         ref0,
@@ -158,6 +161,7 @@ pub fn derive_mb_bs<'a>(
     size: Size,
     field: bool,
     f: Flagged,
+    t8s: &[u8],
     inter: &[u8],
     nnz: &[u8],
     ref0: &[i8],
@@ -166,7 +170,7 @@ pub fn derive_mb_bs<'a>(
     mv1: &'a [i16],
     strengths: &mut [u8],
 ) -> u32
-    ensures { λ n. ⌜ FlagsOutcome size field f (grids (now (inter .entry)) (now (nnz .entry)) (now (ref0 .entry)) (now (mv0 .entry)) (now (ref1 .entry)) (now (mv1 .entry))) (now (strengths .entry)) n (now (strengths .exit)) ⌝ }
+    ensures { λ n. ⌜ FlagsOutcome size field f (now (t8s .entry)) (grids (now (inter .entry)) (now (nnz .entry)) (now (ref0 .entry)) (now (mv0 .entry)) (now (ref1 .entry)) (now (mv1 .entry))) (now (strengths .entry)) n (now (strengths .exit)) ⌝ }
 {
     let known = Known::Flags {
         flat: f.flat,
@@ -177,8 +181,8 @@ pub fn derive_mb_bs<'a>(
         field,
         f.x,
         f.y,
-        f.t8,
         known,
+        t8s,
         inter,
         nnz,
         ref0,
@@ -189,11 +193,13 @@ pub fn derive_mb_bs<'a>(
     )
 }
 
-// Strengths of a macroblock of which nothing is known but its transform.
+// Strengths of a macroblock of which nothing is known.
 pub fn derive_mb<'a>(
     size: Size,
     field: bool,
-    p: Plain,
+    x: usize,
+    y: usize,
+    t8s: &[u8],
     inter: &[u8],
     nnz: &[u8],
     ref0: &[i8],
@@ -202,7 +208,7 @@ pub fn derive_mb<'a>(
     mv1: &'a [i16],
     strengths: &mut [u8],
 ) -> u32
-    ensures { λ n. ⌜ PlainOutcome size field p (grids (now (inter .entry)) (now (nnz .entry)) (now (ref0 .entry)) (now (mv0 .entry)) (now (ref1 .entry)) (now (mv1 .entry))) (now (strengths .entry)) n (now (strengths .exit)) ⌝ }
+    ensures { λ n. ⌜ PlainOutcome size field x y (now (t8s .entry)) (grids (now (inter .entry)) (now (nnz .entry)) (now (ref0 .entry)) (now (mv0 .entry)) (now (ref1 .entry)) (now (mv1 .entry))) (now (strengths .entry)) n (now (strengths .exit)) ⌝ }
 {
     let known = Known::Flags {
         flat: false,
@@ -211,10 +217,10 @@ pub fn derive_mb<'a>(
     derive_known(
         size,
         field,
-        p.x,
-        p.y,
-        p.t8,
+        x,
+        y,
         known,
+        t8s,
         inter,
         nnz,
         ref0,

@@ -1,14 +1,17 @@
 // The checks of a strength call, in the order of their numbers.
 ghost use mathlib.Core.Path.{_≡_};
+ghost use mathlib.Core.Bool.{false};
 ghost use mathlib.Core.List.{[], _∷_};
 ghost use Prim.Native.Nat.{_*_, _<_, _≤_};
+ghost use lib.Dec.{eqb};
 ghost use lib.ListN.{length};
 ghost use Rattle.laws.specs.Refusal.{refusal};
 ghost use Rattle.motion.specs.Grids.{grids};
 ghost use Rattle.strengths.specs.Blocks.{someRead};
 ghost use Rattle.strengths.specs.Inner.{InGrids, soughtAt, placesOf};
-ghost use Rattle.strengths.specs.Checks.{badStrengths, badLengths, belowNone, disagree};
+ghost use Rattle.sizes.specs.Inner.{InPicture};
 ghost use Rattle.sizes.specs.Sizes.{badSize, outsideOf};
+ghost use Rattle.strengths.specs.Checks.{badByMacroblock, badLengths, badFlags, belowNone, disagree};
 ghost use Rattle.strengths.specs.Calls.{deriveChecks};
 use crate::walks::Sought;
 use crate::walks::beside_differ;
@@ -17,6 +20,8 @@ use crate::walks::own_differ;
 use crate::walks::own_have;
 use sizes::Size;
 use sizes::bad_size;
+use sizes::entries::bad_flag_count;
+use sizes::entries::over_near;
 
 // Check 5, by lengths: n blocks.
 fn bad_lengths(
@@ -43,6 +48,7 @@ pub fn refuse_lengths(
     size: Size,
     x: usize,
     y: usize,
+    t8s: usize,
     strengths: usize,
     inter: usize,
     nnz: usize,
@@ -51,7 +57,7 @@ pub fn refuse_lengths(
     ref1: usize,
     mv1: usize,
 ) -> u32
-    ensures { λ r. ⌜ r ≡ refusal ((1, badSize size) ∷ (2, outsideOf size x y) ∷ (4, badStrengths size strengths) ∷ (5, badLengths (16 * (size .w * size .h)) inter nnz ref0 mv0 ref1 mv1) ∷ []) ⌝ }
+    ensures { λ r. ⌜ r ≡ refusal ((1, badSize size) ∷ (2, outsideOf size x y) ∷ (4, badByMacroblock (size .w * size .h) strengths t8s) ∷ (5, badLengths (16 * (size .w * size .h)) inter nnz ref0 mv0 ref1 mv1) ∷ []) ⌝ }
 {
     if bad_size(size) {
         return 1;
@@ -62,13 +68,24 @@ pub fn refuse_lengths(
         return 2;
     }
     let n = w * h;
-    if strengths != 32 * n {
+    if (strengths != 32 * n) | bad_flag_count(n, t8s) {
         return 4;
     }
     if bad_lengths(16 * n, inter, nnz, ref0, mv0, ref1, mv1) {
         return 5;
     }
     0
+}
+
+// Check 7, of the flags.
+fn bad_flags(t8s: &[u8], w: usize, x: usize, y: usize) -> bool
+    requires { ⌜ (eqb (length (now t8s)) 0 ≡ false → InPicture w x y (length (now t8s))) ⌝ }
+    ensures { λ r. ⌜ r ≡ badFlags (now (t8s .entry)) w x y ⌝ }
+{
+    if t8s.len() == 0 {
+        return false;
+    }
+    over_near(t8s, w, x, y, 1)
 }
 
 // What is sought is at a block that is read.
@@ -113,6 +130,7 @@ pub fn refuse_derive<'a>(
     size: Size,
     x: usize,
     y: usize,
+    t8s: &[u8],
     strengths: usize,
     inter: &[u8],
     nnz: &[u8],
@@ -121,12 +139,13 @@ pub fn refuse_derive<'a>(
     ref1: &[i8],
     mv1: &'a [i16],
 ) -> u32
-    ensures { λ r. ⌜ r ≡ refusal (deriveChecks size x y (grids (now (inter .entry)) (now (nnz .entry)) (now (ref0 .entry)) (now (mv0 .entry)) (now (ref1 .entry)) (now (mv1 .entry))) strengths) ⌝ }
+    ensures { λ r. ⌜ r ≡ refusal (deriveChecks size x y (now (t8s .entry)) (grids (now (inter .entry)) (now (nnz .entry)) (now (ref0 .entry)) (now (mv0 .entry)) (now (ref1 .entry)) (now (mv1 .entry))) strengths) ⌝ }
 {
     let n = refuse_lengths(
         size,
         x,
         y,
+        t8s.len(),
         strengths,
         inter.len(),
         nnz.len(),
@@ -139,7 +158,8 @@ pub fn refuse_derive<'a>(
         return n;
     }
     let w = size.w;
-    if some_read(Sought::Above(1), inter, ref0, w, x, y) {
+    let bad_inter = some_read(Sought::Above(1), inter, ref0, w, x, y);
+    if bad_inter | bad_flags(t8s, w, x, y) {
         return 7;
     }
     let bad0 = bad_list(inter, ref0, w, x, y);

@@ -1,17 +1,21 @@
 // The 32 strengths of a macroblock whose grids have been checked.
 ghost use mathlib.Core.Path.{_≡_};
-ghost use mathlib.Core.Bool.{true, cond, not, _||_};
+ghost use mathlib.Core.Bool.{true, cond, _||_};
 ghost use Prim.Native.Nat.{_+_, _*_, _/_, _%_, _<_, _≤_};
-ghost use lib.Dec.{eqb, ltb};
-ghost use lib.ListN.{length, getD};
+ghost use lib.Dec.{ltb};
+ghost use lib.ListN.{length};
 ghost use Rattle.laws.specs.Some.{every};
 ghost use Rattle.motion.specs.Grids.{grids, blockRead};
 ghost use Rattle.motion.specs.Inner.{Hold};
 ghost use Rattle.motion.specs.Motion.{sameMotion};
 ghost use Rattle.strengths.specs.Blocks.{ownBlock};
+ghost use Rattle.strengths.specs.Eights.{acrossFlag, pOdd, qOdd, codedBy, InCounts};
 ghost use Rattle.strengths.specs.Inner.{InGrids};
 ghost use Rattle.strengths.specs.Strength.{border, skipped, outerIntra, between, written};
 ghost use Rattle.strengths.specs.ByKind.{inside, acrossBy, strengthBy};
+use crate::eights::Transforms;
+use crate::eights::across_flag;
+use crate::eights::coded_by;
 use crate::kinds::MbKind;
 use crate::kinds::Mode;
 use motion::blocks::Blk;
@@ -78,14 +82,6 @@ fn no_edge(t8: bool, x: usize, y: usize, k: usize) -> bool
     ((e == 0) & (by_way(k, x, y) == 0)) | (t8 & (e % 2 == 1))
 }
 
-// Block i has coefficients.
-fn coded(nnz: &[u8], i: usize) -> bool
-    requires { ⌜ i < length (now nnz) ⌝ }
-    ensures { λ r. ⌜ r ≡ not (eqb (getD (now (nnz .entry)) i 0) 0) ⌝ }
-{
-    nnz[i] != 0
-}
-
 // Across a left edge, or else an upper one.
 fn outer_strength(mode: Mode, left: bool, coded: bool, p: Blk, q: Blk) -> u8
     ensures { λ r. ⌜ r ≡ between (mode .limit) (outerIntra mode left) coded p q ⌝ }
@@ -145,11 +141,26 @@ fn q_block(at: usize, w: usize, k: usize) -> usize
     at + by_way(k, s, e) * (4 * w) + by_way(k, e, s)
 }
 
+// A block beside byte k's edge has coefficients: p before it or q after it.
+fn coded_beside(t: Transforms, w: usize, nnz: &[u8], p: usize, q: usize, k: usize) -> bool
+    requires { ⌜ InCounts (length (now nnz)) (4 * w) (acrossFlag t k) (pOdd k) p ⌝ }
+    requires { ⌜ InCounts (length (now nnz)) (4 * w) (t .own) (qOdd k) q ⌝ }
+    requires { ⌜ 4 * w < 1000000 ⌝ }
+    ensures { λ r. ⌜ r ≡ (codedBy (now (nnz .entry)) (4 * w) (acrossFlag t k) (pOdd k) p || codedBy (now (nnz .entry)) (4 * w) (t .own) (qOdd k) q) ⌝ }
+{
+    let e = k / 4 % 4;
+    let s = k % 4;
+    let across = across_flag(t, k);
+    let before = coded_by(nnz, 4 * w, across, by_way(k, s, e + 1) % 2, p);
+    let after = coded_by(nnz, 4 * w, t.own, by_way(k, s, e) % 2, q);
+    before | after
+}
+
 // Strength byte k.
 fn strength_at<'a>(
     kind: MbKind,
     mode: Mode,
-    t8: bool,
+    t: Transforms,
     w: usize,
     x: usize,
     y: usize,
@@ -165,15 +176,15 @@ fn strength_at<'a>(
     requires { ⌜ InGrids w x y (length (now nnz)) ⌝ }
     requires { ⌜ InGrids w x y 589824 ⌝ }
     requires { ⌜ k < 32 ⌝ }
-    ensures { λ r. ⌜ r ≡ strengthBy kind mode (grids (now (inter .entry)) (now (nnz .entry)) (now (ref0 .entry)) (now (mv0 .entry)) (now (ref1 .entry)) (now (mv1 .entry))) w t8 x y k ⌝ }
+    ensures { λ r. ⌜ r ≡ strengthBy kind mode (grids (now (inter .entry)) (now (nnz .entry)) (now (ref0 .entry)) (now (mv0 .entry)) (now (ref1 .entry)) (now (mv1 .entry))) w t x y k ⌝ }
 {
-    if no_edge(t8, x, y, k) {
+    if no_edge(t.own, x, y, k) {
         return 0;
     }
     let at = 16 * (y * w) + 4 * x;
     let q = q_block(at, w, k);
     let p = q - by_way(k, 1, 4 * w);
-    let either = coded(nnz, p) | coded(nnz, q);
+    let either = coded_beside(t, w, nnz, p, q, k);
     let a = load(inter, ref0, mv0, ref1, mv1, p);
     let b = load(inter, ref0, mv0, ref1, mv1, q);
     edge_strength(kind, mode, k / 4 % 4 == 0, k < 16, either, a, b)
@@ -183,7 +194,7 @@ fn strength_at<'a>(
 pub fn derive<'a>(
     kind: MbKind,
     mode: Mode,
-    t8: bool,
+    t: Transforms,
     w: usize,
     x: usize,
     y: usize,
@@ -199,11 +210,11 @@ pub fn derive<'a>(
     requires { ⌜ InGrids w x y (length (now nnz)) ⌝ }
     requires { ⌜ InGrids w x y 589824 ⌝ }
     requires { ⌜ 32 * (y * w + x) + 32 ≤ length (now strengths) ⌝ }
-    ensures { λ _. ⌜ now (strengths .exit) ≡ written (y * w + x) (strengthBy kind mode (grids (now (inter .entry)) (now (nnz .entry)) (now (ref0 .entry)) (now (mv0 .entry)) (now (ref1 .entry)) (now (mv1 .entry))) w t8 x y) (now (strengths .entry)) ⌝ }
+    ensures { λ _. ⌜ now (strengths .exit) ≡ written (y * w + x) (strengthBy kind mode (grids (now (inter .entry)) (now (nnz .entry)) (now (ref0 .entry)) (now (mv0 .entry)) (now (ref1 .entry)) (now (mv1 .entry))) w t x y) (now (strengths .entry)) ⌝ }
 {
     let i = 32 * (y * w + x);
     for k in 0..32usize {
-        let s = strength_at(kind, mode, t8, w, x, y, inter, nnz, ref0, mv0, ref1, mv1, k);
+        let s = strength_at(kind, mode, t, w, x, y, inter, nnz, ref0, mv0, ref1, mv1, k);
         strengths[i + k] = s;
     }
 }

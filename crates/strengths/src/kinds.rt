@@ -48,24 +48,16 @@ pub struct Flagged {
     pub y: usize,
     pub flat: bool,
     pub uniform: bool,
-    pub t8: bool,
-}
-
-// One macroblock of which nothing is known but its transform.
-pub struct Plain {
-    pub x: usize,
-    pub y: usize,
-    pub t8: bool,
 }
 
 // Whether a kind is true, by what the blocks show: the first is inter, all have one motion, some has
-// coefficients.
-pub fn kind_holds(kind: MbKind, first: bool, same: bool, coded: bool) -> bool
-    ensures { λ r. ⌜ r ≡ kindBy kind first same coded ⌝ }
+// a count.
+pub fn kind_holds(kind: MbKind, first: bool, same: bool, counted: bool) -> bool
+    ensures { λ r. ⌜ r ≡ kindBy kind first same counted ⌝ }
 {
     match kind {
         MbKind::Intra => !first,
-        MbKind::Skip => first & same & !coded,
+        MbKind::Skip => first & same & !counted,
         MbKind::InterUniform => first & same,
         MbKind::Inter => first,
     }
@@ -98,13 +90,13 @@ pub fn says_any(known: Known) -> bool
     }
 }
 
-pub fn untrue_by(known: Known, first: bool, same: bool, coded: bool) -> bool
-    ensures { λ r. ⌜ r ≡ untrueBy known first same coded ⌝ }
+pub fn untrue_by(known: Known, first: bool, same: bool, counted: bool) -> bool
+    ensures { λ r. ⌜ r ≡ untrueBy known first same counted ⌝ }
 {
     match known {
-        Known::Stated(kind) => !kind_holds(kind, first, same, coded),
+        Known::Stated(kind) => !kind_holds(kind, first, same, counted),
         Known::Flags { flat, uniform } => {
-            (flat & !(first & same & !coded)) | (uniform & !(first & same))
+            (flat & !(first & same & !counted)) | (uniform & !(first & same))
         }
     }
 }

@@ -2,5 +2,6 @@
 pub mod calls;
 pub mod checks;
 pub mod derive;
+pub mod eights;
 pub mod kinds;
 pub mod walks;

@@ -21,6 +21,10 @@ fn strengths(name: &str, answer: u32, x: usize, fresh: Option<[u8; 32]>, s: &mut
 fn plain(inter: u8, x: usize, t8: bool, s: &mut [u8]) {
     let mut nnz = [0; 32];
     nnz[13] = 3;
+    if t8 {
+        // the original looks at each block's own count, so all four blocks of the 8x8 block get it
+        [nnz[4], nnz[5], nnz[12]] = [3; 3];
+    }
     let mut mv0 = [0; 64];
     mv0[44] = 4;
     let refused = inter > 1;

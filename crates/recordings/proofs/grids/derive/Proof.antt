@@ -18,7 +18,7 @@ abbrev Inv : tie.InvT-loop
 Inv size field n inter nnz ref0 mv0 ref1 mv1 t8s s₀ done₀ i₀ s done i =
     (i ≤ n)
     × (length s ≡ length s₀)
-    × (done ≡ every i (servedAt size (grids inter nnz ref0 mv0 ref1 mv1) (length s₀)))
+    × (done ≡ every i (servedAt size t8s (grids inter nnz ref0 mv0 ref1 mv1) (length s₀)))
     × (s ≡ derivedTo size field (grids inter nnz ref0 mv0 ref1 mv1) t8s i s₀)
 
 abbrev μ : tie.MeasureT-loop
@@ -27,15 +27,14 @@ abbrev μ : tie.MeasureT-loop
 loop-again : tie.Need-loop-again Inv μ
 loop-again c =
     let q = c .before .before in
-    let b = q .before .before in
-    let r = b .before in
+    let r = q .before .before in
     let k = r .before in
     let test = k .before in
     let l = test .before in
     let a = l .before .before .before .before .before .args in
     let g = grids (a .inter .now) (a .nnz .now) (a .ref0 .now) (a .mv0 .now) (a .ref1 .now) (a .mv1 .now) in
     let i = l .loop .inv in
-    let t = turn (a .size) (a .field) g (a .t8s .now) (l .loop .i) (length (a .s .now)) (i .1) (k .column .ensures) (r .row .ensures) (b .byte-at .ensures) (q .derive-mb .ensures) in (
+    let t = turn (a .size) (a .field) g (a .t8s .now) (l .loop .i) (length (a .s .now)) (i .1) (k .column .ensures) (r .row .ensures) (q .derive-mb .ensures) in (
       omega (arith, test .loop-test .taken),
       omega (arith, i, q .derive-mb .kept),
       every-more _ _ (i .2) (ap (λ (x : Bool). l .loop .done && x) (t .0)),
@@ -54,7 +53,6 @@ derive-spec =
     Inv
     μ
     (λ c. (omega arith, refl, every-none _, upTo-none _ _))
-    (λ c κs. search needs)
     (λ c κs. search needs)
     (λ c κs. search needs)
     (λ c κs. search needs)

@@ -20,38 +20,41 @@ given c = let a = c .args in grids (a .inter .now) (a .nnz .now) (a .ref0 .now) 
 
 -- where the call goes on after checks 1 to 11
 abbrev start : tie.Else1 → tie.Start
-start c = c .before .before .before .before .before
+start c = c .before .before .before .before .before .before
 
-zero : (c : tie.Else1) → let s = start c in let a = s .args in refusal (deriveChecks (a .size) (a .x) (a .y) (given s) (length (a .strengths .now))) ≡ 0
+zero : (c : tie.Else1) → let s = start c in let a = s .args in refusal (deriveChecks (a .size) (a .x) (a .y) (a .t8s .now) (given s) (length (a .strengths .now))) ≡ 0
 zero c = sym (c .before .refuse-derive .ensures) ∙ c .if1 .left
 
-ok : (c : tie.Else1) → let s = start c in let a = s .args in Derivable (a .size) (a .x) (a .y) (given s) (length (a .strengths .now))
-ok c = let s = start c in let a = s .args in passed-derivable (a .size) (a .x) (a .y) (given s) (length (a .strengths .now)) (zero c)
+ok : (c : tie.Else1) → let s = start c in let a = s .args in Derivable (a .size) (a .x) (a .y) (a .t8s .now) (given s) (length (a .strengths .now))
+ok c = let s = start c in let a = s .args in passed-derivable (a .size) (a .x) (a .y) (a .t8s .now) (given s) (length (a .strengths .now)) (zero c)
 
 returns : tie.Need-returns
 returns c =
-    let s = c .before .before .before .before .before in
+    let s = c .before .before .before .before .before .before in
     let a = s .args in
-    refused (a .size) (a .field) (a .x) (a .y) (a .t8) (given s) _ (a .strengths .now) _ (c .before .refuse-derive .ensures) (c .if1 .taken)
+    refused (a .size) (a .field) (a .x) (a .y) (a .t8s .now) (given s) _ (a .strengths .now) _ (c .before .refuse-derive .ensures) (c .if1 .taken)
 
 untrue : tie.Need-untrue-known-requires
 untrue c κs =
     let s = start c in
     let a = s .args in
-    (ok c .grids, (ok c .nnz, (ok c .place, agrees (a .size) (a .x) (a .y) (given s) (length (a .strengths .now)) (zero c))))
+    (ok c .grids, (ok c .nnz, (ok c .place, agrees (a .size) (a .x) (a .y) (a .t8s .now) (given s) (length (a .strengths .now)) (zero c))))
 
 returns-2 : tie.Need-returns-2
 returns-2 c =
     let e = c .before .before in
     let s = start e in
     let a = s .args in
-    untrue-12 (a .size) (a .field) (a .x) (a .y) (a .t8) (given s) _ (a .strengths .now) (zero e) (sym (c .before .untrue-known .ensures) ∙ c .if2 .taken)
+    untrue-12 (a .size) (a .field) (a .x) (a .y) (a .t8s .now) (given s) _ (a .strengths .now) (zero e) (sym (c .before .untrue-known .ensures) ∙ c .if2 .taken)
 
 inter : tie.Need-first-inter-requires
 inter c κs = ok (c .before .before) .inter
 
+flags : tie.Need-transforms-at-requires
+flags c κs = let e = ok (c .before .before .before .before .before) in (e .index, e .flags)
+
 derives : tie.Need-derive-requires
-derives c κs = let e = ok (c .before .before .before .before .before .before) in (e .grids, (e .nnz, (e .place, e .room)))
+derives c κs = let e = ok (c .before .before .before .before .before .before .before) in (e .grids, (e .nnz, (e .place, e .room)))
 
 -- the kind that is handed on is true
 true-kind : (c : tie.After-kind-known) → let s = start (c .before .before .before .before) in let a = s .args in isKind (given s) (a .size .w) (a .x) (a .y) (c .kind-known .result) ≡ true
@@ -61,19 +64,20 @@ true-kind c =
     let s = start e in
     let a = s .args in
     ap (λ (k : MbKind). isKind (given s) (a .size .w) (a .x) (a .y) k) (c .kind-known .ensures ∙ ap (λ (b : Bool). kindKnown (a .known) b) (c .before .first-inter .ensures))
-    ∙ known-kind (given s) (a .size .w) (a .x) (a .y) (agrees (a .size) (a .x) (a .y) (given s) (length (a .strengths .now)) (zero e)) (a .known) (sym (t .before .untrue-known .ensures) ∙ t .if2 .left)
+    ∙ known-kind (given s) (a .size .w) (a .x) (a .y) (agrees (a .size) (a .x) (a .y) (a .t8s .now) (given s) (length (a .strengths .now)) (zero e)) (a .known) (sym (t .before .untrue-known .ensures) ∙ t .if2 .left)
 
 returns-3 : tie.Need-returns-3
 returns-3 c =
-    let m = c .before .before .before .before in
+    let f = c .before .before .before .before in
+    let m = f .before in
     let k = m .before in
     let t = k .before .before in
     let e = t .before .before in
     let s = start e in
     let a = s .args in
-    done (a .size) (a .field) (a .x) (a .y) (a .t8) (given s) _ (a .strengths .now) (k .kind-known .result) _ (zero e) (sym (t .before .untrue-known .ensures) ∙ t .if2 .left) (true-kind k)
-    (rw (m .mode-of .ensures) at (c .before .before .derive .ensures))
+    done (a .size) (a .field) (a .x) (a .y) (a .t8s .now) (given s) _ (a .strengths .now) (k .kind-known .result) _ (zero e) (sym (t .before .untrue-known .ensures) ∙ t .if2 .left) (true-kind k)
+    (rw (m .mode-of .ensures, f .transforms-at .ensures) at (c .before .before .derive .ensures))
 
 pub derive-known-spec : {M : Type 1} → statement M
 derive-known-spec =
-    tie.close (tie.spec (λ c κs. search needs) returns untrue returns-2 inter (λ c κs. search needs) (λ c κs. search needs) derives (λ c. search needs) returns-3)
+    tie.close (tie.spec (λ c κs. search needs) returns untrue returns-2 inter (λ c κs. search needs) (λ c κs. search needs) flags derives (λ c. search needs) returns-3)

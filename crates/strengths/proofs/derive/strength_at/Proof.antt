@@ -1,17 +1,20 @@
 -- `strength_at`: the blocks beside the edge are those of the definition. Assumes nothing.
 use borrow.Author.Needs.{needs}
 use mathlib.Core.Path.{_≡_, sym, _∙_}
-use mathlib.Core.Bool.{false, _||_}
+use mathlib.Core.Bool.{true, false, _||_}
 use Prim.Native.Nat.{_+_, _-_, _*_, _≤_}
 use native.Mathlib.Omega.{arith}
+use Rattle.laws.proofs.Bools.{or-false}
 use Rattle.motion.proofs.Laws.{hold-less}
 use Rattle.strengths.specs.Strength.{border, skipped}
 use Rattle.strengths.specs.ByKind.{strengthBy}
+use Rattle.strengths.specs.Eights.{acrossFlag}
 use Rattle.strengths.proofs.Beside.{across-fits}
+use Rattle.strengths.proofs.CodedBlocks.{p-counts, q-counts}
 use Rattle.strengths.proofs.derive.strength_at.Statement.{statement}
 use Rattle.strengths.proofs.derive.strength_at.Tie as tie
 
-busy : (c : tie.Else1) → let a = c .before .before .before .before .args in (border (a .x) (a .y) (a .k) || skipped (a .t8) (a .k)) ≡ false
+busy : (c : tie.Else1) → let a = c .before .before .before .before .args in (border (a .x) (a .y) (a .k) || skipped (a .t .own) (a .k)) ≡ false
 busy c = sym (c .before .no-edge .ensures) ∙ c .if1 .left
 
 -- there is a block across the edge
@@ -19,7 +22,7 @@ fits : (c : tie.After-by-way) → c .by-way .result ≤ c .before .q-block .resu
 fits c =
     let e = c .before .before in
     let a = e .before .before .before .before .args in
-    rw (c .by-way .ensures, c .before .q-block .ensures .0) (across-fits (a .w) (a .x) (a .y) (a .k) (a .t8) (busy e))
+    rw (c .by-way .ensures, c .before .q-block .ensures .0) (across-fits (a .w) (a .x) (a .y) (a .k) (a .t .own) (busy e))
 
 most : (c : tie.After-q-block) → let a = c .before .before .before .before .before .args in c .q-block .result ≤ 16 * (a .y * a .w) + 4 * a .x + 12 * a .w + 3
 most c = c .q-block .ensures .1
@@ -31,11 +34,22 @@ returns c = simp (sym (c .before .no-edge .ensures) ∙ c .if1 .taken)
 returns-2 : tie.Need-returns-2
 unfolding strengthBy
 returns-2 c =
-    let q = c .before .before .before .before .before .before .q-block .ensures .0 in
-    let p = c .before .before .before .before .before .by-way .ensures in
-    let i = c .before .before .before .before .coded .ensures in
-    let j = c .before .before .before .coded2 .ensures in
-    simp (busy (c .before .before .before .before .before .before .before)) (rw (c .before .load2 .ensures, c .before .before .load .ensures, i, j, p, q) at (c .edge-strength .ensures))
+    let e = c .before .before .before in
+    let q = e .before .before .q-block .ensures .0 in
+    let p = e .before .by-way .ensures in
+    simp (busy (e .before .before .before)) (rw (c .before .load2 .ensures, c .before .before .load .ensures, e .coded-beside .ensures, p, q) at (c .edge-strength .ensures))
+
+-- the counts that are read are in their grid
+counts : tie.Need-coded-beside-requires
+counts c κs =
+    let e = c .before .before in
+    let s = e .before .before .before .before in
+    let a = s .args in
+    let b = or-false (border (a .x) (a .y) (a .k)) (skipped (a .t .own) (a .k)) (busy e) .0 in
+    let n = s .pre .1 .0 in (
+      rw (c .by-way .ensures, c .before .q-block .ensures .0) (p-counts (a .w) (λ i. true) (a .x) (a .y) (a .k) (n .column) (acrossFlag (a .t) (a .k)) b (n .last)),
+      (rw (c .before .q-block .ensures .0) (q-counts (a .w) (λ i. true) (a .x) (a .y) (a .k) (n .column) (a .t .own) (n .last)), omega (arith, s .pre .1 .1 .0)),
+    )
 
 pub strength-at-spec : {M : Type 1} → statement M
 strength-at-spec =
@@ -51,9 +65,8 @@ strength-at-spec =
     (λ c. search needs)
     (λ c κs. search needs)
     (λ c. omega (arith, fits c))
-    (λ c κs. omega (arith, most (c .before), c .before .before .before .before .before .before .pre .1 .0))
-    (λ c κs. omega (arith, most (c .before .before), c .before .before .before .before .before .before .before .pre .1 .0))
+    counts
+    (λ c κs. hold-less (c .before .before .before .before .before .before .before .pre .0) (omega (arith, most (c .before .before))))
     (λ c κs. hold-less (c .before .before .before .before .before .before .before .before .pre .0) (omega (arith, most (c .before .before .before))))
-    (λ c κs. hold-less (c .before .before .before .before .before .before .before .before .before .pre .0) (omega (arith, most (c .before .before .before .before))))
     (λ c κs. search needs)
     returns-2)

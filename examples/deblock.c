@@ -6,7 +6,7 @@
 /* Derives the strengths of macroblock i and prints the first of its left, upper and inner edges. */
 static void derive(const struct deblock_picture *p, const struct deblock_grids *g, size_t i)
 {
-    uint32_t answer = deblock_picture_strengths(p, g, i % W, i / W, 0);
+    uint32_t answer = deblock_picture_strengths(p, g, i % W, i / W);
     const uint8_t *own = p->strengths + 32 * i;
     printf("strengths of (%zu, %zu): %s; left edge %u, upper edge %u, inner edges %u\n", i % W, i / W,
            deblock_answer_text(answer), own[0], own[16], own[4]);

@@ -76,8 +76,8 @@ static inline void decode_motion(int uses, int8_t *ref, int16_t *mv)
     mv[1] = uses ? (int16_t)below(8) : 0;
 }
 
-/* Inter blocks use list 0, list 1 or both. Under an 8x8 transform all four blocks of an 8x8 block have a
- * count, or none has (docs/GUIDE.md, "What the numbers in the grids mean"). */
+/* Inter blocks use list 0, list 1 or both. Counts are the blocks' own, also under an 8x8 transform, as CAVLC
+ * has them (docs/GUIDE.md, "What the numbers in the grids mean"). */
 static inline void decode_macroblock(size_t i)
 {
     const uint8_t inter = below(3) > 0, t8 = below(3) == 0;
@@ -88,7 +88,7 @@ static inline void decode_macroblock(size_t i)
         const size_t block = (i / W * 4 + k / 4) * 4 * W + i % W * 4 + k % 4;
         const uint32_t lists = inter ? 1 + below(3) : 0;
         sent.inter[block] = inter;
-        sent.nnz[block] = coded >> (t8 ? k / 8 * 2 + k % 4 / 2 : k) & 1;
+        sent.nnz[block] = coded >> k & 1;
         decode_motion((lists & 1) != 0, sent.ref0 + block, sent.mv0 + 2 * block);
         decode_motion((lists & 2) != 0, sent.ref1 + block, sent.mv1 + 2 * block);
     }

@@ -66,7 +66,7 @@ static void decode_field(size_t parity)
     const struct deblock_picture p = lend_field(&frame, parity);
     const struct deblock_grids g = lend_grids(&fields[parity]);
     for (size_t i = 0; i < N; i++)
-        must_be_done(deblock_picture_strengths(&p, &g, i % W, i / W, fields[parity].t8s[i]));
+        must_be_done(deblock_picture_strengths(&p, &g, i % W, i / W));
 }
 
 /* Visits what is ready of a field: a macroblock waits for neighbours of its own field. */

@@ -65,7 +65,7 @@ static uint32_t filter(const struct deblock_picture *p, const struct deblock_gri
 {
     uint32_t answer = DEBLOCK_DONE;
     for (size_t i = 0; i < N && answer == DEBLOCK_DONE; i++)
-        answer = deblock_picture_strengths(p, g, i % W, i / W, p->t8s_len > 0 ? p->t8s[i] : 0);
+        answer = deblock_picture_strengths(p, g, i % W, i / W);
     return answer == DEBLOCK_DONE ? deblock_picture_whole(p) : answer;
 }
 

@@ -45,8 +45,8 @@ static void store(size_t i)
     station.t8s[i] = sent.t8s[i];
 }
 
-/* Derives the strengths of macroblock i once the blocks to its left and above are there too. The call could
- * not tell that they are not, and would answer 0 with other strengths. */
+/* Derives the strengths of macroblock i once the blocks and flags to its left and above are there too. The
+ * call could not tell that they are not, and would answer 0 with other strengths. */
 static void derive(size_t i)
 {
     const int left = i % W == 0 || arrived[i - 1];
@@ -55,7 +55,7 @@ static void derive(size_t i)
         return;
     const struct deblock_picture p = lend_picture(&station);
     const struct deblock_grids g = lend_grids(&station);
-    must_be_done(deblock_picture_strengths(&p, &g, i % W, i / W, station.t8s[i]));
+    must_be_done(deblock_picture_strengths(&p, &g, i % W, i / W));
     derived[i] = 1;
 }
 
@@ -156,7 +156,7 @@ static void derive_all(struct buffers *b)
     const struct deblock_picture p = lend_picture(b);
     const struct deblock_grids g = lend_grids(b);
     for (size_t i = 0; i < N; i++)
-        must_be_done(deblock_picture_strengths(&p, &g, i % W, i / W, b->t8s[i]));
+        must_be_done(deblock_picture_strengths(&p, &g, i % W, i / W));
 }
 
 static void filter_rows(struct buffers *b)

@@ -27,9 +27,9 @@
  *     two strength calls that are lent the same strengths, no filtering while its strengths are written.
  *     Buffers that are only read may be shared.
  *   - Stack: bytes that a call touched on x86-64, measured by target/host/release/stack: whole 1832, rows
- *     1848, visit 1552, strengths 920, with flags 952, with a kind 1016, of a field as of a frame; of the
+ *     1848, visit 1552, strengths 1016, with flags 1032, with a kind 1128, of a field as of a frame; of the
  *     calls over streams 236 at most. On Arm the calls of 0.2.0 touched less, 1280 at most, and these were
- *     not measured (docs/SPEED.md, "Stack"). A function over structs takes at most 240 more at -O2, 752 at
+ *     not measured (docs/SPEED.md, "Stack"). A function over structs takes at most 272 more at -O2, 752 at
  *     -O0 (-fstack-usage of clang 14 for x86-64 and Arm, of gcc 12 for x86-64).
  *
  * Sizes. A picture is w by h macroblocks, 1 <= w <= 256, 1 <= h <= 256, w * h <= 36864. Macroblock (x, y) has
@@ -65,9 +65,9 @@
 #include <stdint.h>
 
 #define DEBLOCK_VERSION_MAJOR 0
-#define DEBLOCK_VERSION_MINOR 4
+#define DEBLOCK_VERSION_MINOR 5
 #define DEBLOCK_VERSION_PATCH 0
-#define DEBLOCK_VERSION "0.4.0"
+#define DEBLOCK_VERSION "0.5.0"
 
 /* What a call answers. Checks are made in the order of this list, each call making those whose data it takes;
  * the first that applies is the answer. The numbers are not in that order: 19 is asked between 2 and 3. The
@@ -138,9 +138,8 @@ enum deblock_kind {
     DEBLOCK_INTER = 3          /* all 16 blocks are inter */
 };
 enum deblock_flag {
-    DEBLOCK_FLAT = 1,    /* uniform, and all 16 counts are 0 */
-    DEBLOCK_UNIFORM = 2, /* all 16 blocks are inter with equal references and vectors */
-    DEBLOCK_T8 = 4       /* the transform is 8x8 */
+    DEBLOCK_FLAT = 1,   /* uniform, and all 16 counts are 0 */
+    DEBLOCK_UNIFORM = 2 /* all 16 blocks are inter with equal references and vectors */
 };
 
 #ifdef __cplusplus
@@ -181,32 +180,42 @@ uint32_t deblock_visit(size_t w, size_t h, uint8_t part, size_t x, size_t y,
                        uint8_t *marks, size_t marks_len);
 
 /* The three strength calls read the 16 blocks of macroblock (x, y), four to the left where x > 0 and four
- * above where y > 0, and write the 32 strengths of the macroblock and no others. These blocks have to be
- * there: a call cannot tell one that has not arrived. Where it answers 0 a call with true flags writes what
- * deblock_strengths writes, and one with a true kind what it writes at t8 = 0. field other than 0 means that
- * the picture is a field: vectors are then far from a vertical difference of 2 quarter samples on, not of 4,
- * and the upper edge of or under an intra macroblock gets 3, not 4. */
+ * above where y > 0, and write the 32 strengths of the macroblock and no others. t8s is the grid that
+ * filtering is lent. Of it they read the macroblock's flag and those of its left and upper neighbours; of a
+ * neighbour whose flag is set they read the counts, and nothing else, of the eight nearest blocks in place of
+ * four: two columns to the left, two rows above. All these have to be there, flags as well as blocks: a call
+ * cannot tell one that has not arrived.
+ *
+ * Where a macroblock's flag is set, its edges 1 and 3 get 0, and a count other than 0 in any of the four
+ * blocks of an 8x8 block counts for all four, on both sides of an edge. So a decoder may write the four
+ * counts of CAVLC as they are, or the 8x8 block's own count to any or all of its four blocks.
+ *
+ * Where it answers 0 a call with true flags or with a true kind writes what deblock_strengths writes. field
+ * other than 0 means that the picture is a field: vectors are then far from a vertical difference of 2
+ * quarter samples on, not of 4, and the upper edge of or under an intra macroblock gets 3, not 4. */
 
-/* Strengths of a macroblock of which nothing is known but its transform: t8 other than 0 means 8x8.
+/* Strengths of a macroblock of which nothing is known but its transform.
  * Writes strengths. Answers 0, 1, 2, 4, 5, 7, 10, 11. */
-uint32_t deblock_strengths(size_t w, size_t h, uint8_t field, size_t x, size_t y, uint8_t t8,
+uint32_t deblock_strengths(size_t w, size_t h, uint8_t field, size_t x, size_t y,
+                           const uint8_t *t8s, size_t t8s_len,
                            const uint8_t *inter, size_t inter_len, const uint8_t *nnz, size_t nnz_len,
                            const int8_t *ref0, size_t ref0_len, const int16_t *mv0, size_t mv0_len,
                            const int8_t *ref1, size_t ref1_len, const int16_t *mv1, size_t mv1_len,
                            uint8_t *strengths, size_t strengths_len);
 
-/* The same with flags, each set by any number but 0. flat and uniform may be left unset where they are true.
+/* The same with flags, each set by any number but 0. They may be left unset where they are true.
  * Writes strengths. Answers 0, 1, 2, 4, 5, 7, 10, 11, 12. */
 uint32_t deblock_strengths_flags(size_t w, size_t h, uint8_t field, size_t x, size_t y,
-                                 uint8_t flat, uint8_t uniform, uint8_t t8,
+                                 uint8_t flat, uint8_t uniform, const uint8_t *t8s, size_t t8s_len,
                                  const uint8_t *inter, size_t inter_len, const uint8_t *nnz, size_t nnz_len,
                                  const int8_t *ref0, size_t ref0_len, const int16_t *mv0, size_t mv0_len,
                                  const int8_t *ref1, size_t ref1_len, const int16_t *mv1, size_t mv1_len,
                                  uint8_t *strengths, size_t strengths_len);
 
-/* The same with a kind, a number of enum deblock_kind; the transform counts as 4x4. Any other number is a
- * kind that is true of no grids. Writes strengths. Answers 0, 1, 2, 4, 5, 7, 10, 11, 12. */
+/* The same with a kind, a number of enum deblock_kind. Any other number is a kind that is true of no grids.
+ * Writes strengths. Answers 0, 1, 2, 4, 5, 7, 10, 11, 12. */
 uint32_t deblock_strengths_kind(size_t w, size_t h, uint8_t field, size_t x, size_t y, uint8_t kind,
+                                const uint8_t *t8s, size_t t8s_len,
                                 const uint8_t *inter, size_t inter_len, const uint8_t *nnz, size_t nnz_len,
                                 const int8_t *ref0, size_t ref0_len, const int16_t *mv0, size_t mv0_len,
                                 const int8_t *ref1, size_t ref1_len, const int16_t *mv1, size_t mv1_len,
@@ -270,7 +279,7 @@ struct deblock_picture {
     uint8_t *v; size_t v_len;
     uint8_t *strengths; size_t strengths_len; /* strength calls write them, filtering reads them */
     const uint8_t *qps; size_t qps_len;
-    const uint8_t *t8s; size_t t8s_len;
+    const uint8_t *t8s; size_t t8s_len; /* strength calls and filtering read them */
     uint8_t *marks; size_t marks_len; /* for visits alone */
 };
 
@@ -286,11 +295,11 @@ struct deblock_grids {
 
 /* For the functions below: a picture as a flat call may be lent it. Where a pointer is null it gets a byte
  * that nobody reads or writes, of length 0. Flags without a pointer but with a length must be refused with 4,
- * so the QPs go with them. */
+ * so the strengths, which every call takes, go with them. */
 static inline struct deblock_picture deblock_picture_lent(struct deblock_picture p)
 {
     static uint8_t none[1];
-    if (!p.t8s && p.t8s_len) { p.qps = NULL; }
+    if (!p.t8s && p.t8s_len) { p.strengths = NULL; }
     if (!p.luma) { p.luma = none; p.luma_len = 0; }
     if (!p.u) { p.u = none; p.u_len = 0; }
     if (!p.v) { p.v = none; p.v_len = 0; }
@@ -345,12 +354,11 @@ static inline uint32_t deblock_picture_visit(const struct deblock_picture *pictu
 }
 
 static inline uint32_t deblock_picture_strengths(const struct deblock_picture *picture,
-                                                 const struct deblock_grids *grids,
-                                                 size_t x, size_t y, uint8_t t8)
+                                                 const struct deblock_grids *grids, size_t x, size_t y)
 {
     const struct deblock_picture p = deblock_picture_lent(*picture);
     const struct deblock_grids g = deblock_grids_lent(*grids);
-    return deblock_strengths(p.w, p.h, p.part != DEBLOCK_FRAME, x, y, t8,
+    return deblock_strengths(p.w, p.h, p.part != DEBLOCK_FRAME, x, y, p.t8s, p.t8s_len,
                              g.inter, g.inter_len, g.nnz, g.nnz_len, g.ref0, g.ref0_len, g.mv0, g.mv0_len,
                              g.ref1, g.ref1_len, g.mv1, g.mv1_len, p.strengths, p.strengths_len);
 }
@@ -363,7 +371,7 @@ static inline uint32_t deblock_picture_strengths_flags(const struct deblock_pict
     const struct deblock_picture p = deblock_picture_lent(*picture);
     const struct deblock_grids g = deblock_grids_lent(*grids);
     return deblock_strengths_flags(p.w, p.h, p.part != DEBLOCK_FRAME, x, y, (flags & DEBLOCK_FLAT) != 0,
-                                   (flags & DEBLOCK_UNIFORM) != 0, (flags & DEBLOCK_T8) != 0,
+                                   (flags & DEBLOCK_UNIFORM) != 0, p.t8s, p.t8s_len,
                                    g.inter, g.inter_len, g.nnz, g.nnz_len, g.ref0, g.ref0_len,
                                    g.mv0, g.mv0_len, g.ref1, g.ref1_len, g.mv1, g.mv1_len,
                                    p.strengths, p.strengths_len);
@@ -375,7 +383,7 @@ static inline uint32_t deblock_picture_strengths_kind(const struct deblock_pictu
 {
     const struct deblock_picture p = deblock_picture_lent(*picture);
     const struct deblock_grids g = deblock_grids_lent(*grids);
-    return deblock_strengths_kind(p.w, p.h, p.part != DEBLOCK_FRAME, x, y, kind,
+    return deblock_strengths_kind(p.w, p.h, p.part != DEBLOCK_FRAME, x, y, kind, p.t8s, p.t8s_len,
                                   g.inter, g.inter_len, g.nnz, g.nnz_len, g.ref0, g.ref0_len,
                                   g.mv0, g.mv0_len, g.ref1, g.ref1_len, g.mv1, g.mv1_len,
                                   p.strengths, p.strengths_len);

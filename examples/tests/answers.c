@@ -42,13 +42,13 @@ static void deriving(void)
     expect("intra", DEBLOCK_UNTRUE, deblock_picture_strengths_kind(&p, &g, 0, 0, DEBLOCK_INTRA));
     expect("kind 4", DEBLOCK_UNTRUE, deblock_picture_strengths_kind(&p, &g, 0, 0, 4));
     inter[0] = 0;
-    expect("mixed", DEBLOCK_MIXED_INTER, deblock_picture_strengths(&p, &g, 0, 0, 0));
+    expect("mixed", DEBLOCK_MIXED_INTER, deblock_picture_strengths(&p, &g, 0, 0));
     ref0[0] = -2;
-    expect("reference -2", DEBLOCK_BAD_REFERENCE, deblock_picture_strengths(&p, &g, 0, 0, 0));
+    expect("reference -2", DEBLOCK_BAD_REFERENCE, deblock_picture_strengths(&p, &g, 0, 0));
     inter[0] = 2;
-    expect("inter 2", DEBLOCK_NOT_A_BOOL, deblock_picture_strengths(&p, &g, 0, 0, 0));
+    expect("inter 2", DEBLOCK_NOT_A_BOOL, deblock_picture_strengths(&p, &g, 0, 0));
     g.mv0_len--;
-    expect("motion cut", DEBLOCK_BLOCK_GRID_LENGTH, deblock_picture_strengths(&p, &g, 0, 0, 0));
+    expect("motion cut", DEBLOCK_BLOCK_GRID_LENGTH, deblock_picture_strengths(&p, &g, 0, 0));
 }
 
 /* What may be said of a macroblock: first of a flat one, then with a coefficient, then with motion too. */
@@ -65,7 +65,7 @@ static void kinds(const struct deblock_picture *p, const struct deblock_grids *g
     expect("intra: intra", 0, deblock_picture_strengths_kind(p, g, 0, 0, DEBLOCK_INTRA));
 }
 
-/* The same of flags, with the strength of luma edge 1, which an 8x8 transform does not have. */
+/* The same of flags. */
 static void flags(const struct deblock_picture *p, const struct deblock_grids *g)
 {
     decode();
@@ -73,15 +73,9 @@ static void flags(const struct deblock_picture *p, const struct deblock_grids *g
     nnz[0] = 1;
     expect("coded: flat", 12, deblock_picture_strengths_flags(p, g, 0, 0, DEBLOCK_FLAT));
     expect("coded: uniform", 0, deblock_picture_strengths_flags(p, g, 0, 0, DEBLOCK_UNIFORM));
-    expect("4x4: edge 1", 2, strengths[4]);
-    expect("coded: 8x8", 0, deblock_picture_strengths_flags(p, g, 0, 0, DEBLOCK_UNIFORM | DEBLOCK_T8));
-    expect("8x8: edge 1", 0, strengths[4]);
     mv0[0] = 1;
     expect("moved: uniform", 12, deblock_picture_strengths_flags(p, g, 0, 0, DEBLOCK_UNIFORM));
     expect("moved: nothing", 0, deblock_picture_strengths_flags(p, g, 0, 0, 0));
-    expect("4x4: edge 1", 2, strengths[4]);
-    expect("moved: 8x8", 0, deblock_picture_strengths(p, g, 0, 0, 1));
-    expect("8x8: edge 1", 0, strengths[4]);
 }
 
 /* The frame's planes as those of a field, with half as many macroblocks and strength 1 everywhere, which

@@ -33,11 +33,11 @@ static uint32_t keep(const size_t *arguments, size_t bytes, uint32_t answer)
 #define FILTERING_KEPT \
     (size_t)a, (size_t)b, (size_t)c, at(y0), yl, at(u0), ul, at(v0), vl, at(s), sl, at(q), ql, at(t), tl
 #define DERIVING \
-    const uint8_t *i, size_t il, const uint8_t *n, size_t nl, const int8_t *r0, size_t r0l, \
-    const int16_t *m0, size_t m0l, const int8_t *r1, size_t r1l, const int16_t *m1, size_t m1l, \
-    uint8_t *s, size_t sl
+    const uint8_t *t, size_t tl, const uint8_t *i, size_t il, const uint8_t *n, size_t nl, \
+    const int8_t *r0, size_t r0l, const int16_t *m0, size_t m0l, \
+    const int8_t *r1, size_t r1l, const int16_t *m1, size_t m1l, uint8_t *s, size_t sl
 #define DERIVING_KEPT \
-    at(i), il, at(n), nl, at(r0), r0l, at(m0), m0l, at(r1), r1l, at(m1), m1l, at(s), sl
+    at(t), tl, at(i), il, at(n), nl, at(r0), r0l, at(m0), m0l, at(r1), r1l, at(m1), m1l, at(s), sl
 
 uint32_t deblock_whole(size_t w, size_t h, uint8_t part, FILTERING)
 KEEP(101, w, h, part, FILTERING_KEPT)
@@ -45,11 +45,11 @@ uint32_t deblock_rows(size_t w, size_t h, uint8_t part, size_t first, size_t las
 KEEP(102, w, h, part, first, last, FILTERING_KEPT)
 uint32_t deblock_visit(size_t w, size_t h, uint8_t part, size_t x, size_t y, FILTERING, uint8_t *m, size_t ml)
 KEEP(103, w, h, part, x, y, FILTERING_KEPT, at(m), ml)
-uint32_t deblock_strengths(size_t w, size_t h, uint8_t field, size_t x, size_t y, uint8_t t8, DERIVING)
-KEEP(104, w, h, field, x, y, t8, DERIVING_KEPT)
+uint32_t deblock_strengths(size_t w, size_t h, uint8_t field, size_t x, size_t y, DERIVING)
+KEEP(104, w, h, field, x, y, DERIVING_KEPT)
 uint32_t deblock_strengths_flags(size_t w, size_t h, uint8_t field, size_t x, size_t y, uint8_t flat,
-                                 uint8_t uniform, uint8_t t8, DERIVING)
-KEEP(105, w, h, field, x, y, flat, uniform, t8, DERIVING_KEPT)
+                                 uint8_t uniform, DERIVING)
+KEEP(105, w, h, field, x, y, flat, uniform, DERIVING_KEPT)
 uint32_t deblock_strengths_kind(size_t w, size_t h, uint8_t field, size_t x, size_t y, uint8_t kind, DERIVING)
 KEEP(106, w, h, field, x, y, kind, DERIVING_KEPT)
 
@@ -118,16 +118,16 @@ static void all_lent(void)
            1, 2, 6, 8, 9, 3, 4, 5, 31, 11, 32, 12, 33, 13, 34, 14, 35, 15, 36, 16);
     EXPECT("visit", 103, deblock_picture_visit(&p, 8, 9),
            1, 2, 6, 8, 9, 3, 4, 5, 31, 11, 32, 12, 33, 13, 34, 14, 35, 15, 36, 16, 37, 17);
-    EXPECT("strengths", 104, deblock_picture_strengths(&p, &g, 8, 9, 7),
-           1, 2, 1, 8, 9, 7, 41, 21, 42, 22, 43, 23, 44, 24, 45, 25, 46, 26, 34, 14);
+    EXPECT("strengths", 104, deblock_picture_strengths(&p, &g, 8, 9),
+           1, 2, 1, 8, 9, 36, 16, 41, 21, 42, 22, 43, 23, 44, 24, 45, 25, 46, 26, 34, 14);
     EXPECT("kind", 106, deblock_picture_strengths_kind(&p, &g, 8, 9, 7),
-           1, 2, 1, 8, 9, 7, 41, 21, 42, 22, 43, 23, 44, 24, 45, 25, 46, 26, 34, 14);
+           1, 2, 1, 8, 9, 7, 36, 16, 41, 21, 42, 22, 43, 23, 44, 24, 45, 25, 46, 26, 34, 14);
     EXPECT("flat", 105, deblock_picture_strengths_flags(&p, &g, 8, 9, DEBLOCK_FLAT),
-           1, 2, 1, 8, 9, 1, 0, 0, 41, 21, 42, 22, 43, 23, 44, 24, 45, 25, 46, 26, 34, 14);
+           1, 2, 1, 8, 9, 1, 0, 36, 16, 41, 21, 42, 22, 43, 23, 44, 24, 45, 25, 46, 26, 34, 14);
     EXPECT("uniform", 105, deblock_picture_strengths_flags(&p, &g, 8, 9, DEBLOCK_UNIFORM),
-           1, 2, 1, 8, 9, 0, 1, 0, 41, 21, 42, 22, 43, 23, 44, 24, 45, 25, 46, 26, 34, 14);
-    EXPECT("8x8", 105, deblock_picture_strengths_flags(&p, &g, 8, 9, DEBLOCK_T8),
-           1, 2, 1, 8, 9, 0, 0, 1, 41, 21, 42, 22, 43, 23, 44, 24, 45, 25, 46, 26, 34, 14);
+           1, 2, 1, 8, 9, 0, 1, 36, 16, 41, 21, 42, 22, 43, 23, 44, 24, 45, 25, 46, 26, 34, 14);
+    EXPECT("other bits", 105, deblock_picture_strengths_flags(&p, &g, 8, 9, ~3u),
+           1, 2, 1, 8, 9, 0, 0, 36, 16, 41, 21, 42, 22, 43, 23, 44, 24, 45, 25, 46, 26, 34, 14);
 }
 
 /* To the strength calls all parts but the frame are a field. */
@@ -138,7 +138,7 @@ static void parts(void)
     for (p.part = DEBLOCK_FRAME; p.part <= DEBLOCK_BOTTOM_FIELD; p.part++) {
         const size_t field = p.part != DEBLOCK_FRAME;
         EXPECT("a part", 101, deblock_picture_whole(&p), 1, 2, p.part, 3, 4, 5);
-        EXPECT("field", 104, deblock_picture_strengths(&p, &g, 8, 9, 7), 1, 2, field, 8, 9, 7);
+        EXPECT("field", 104, deblock_picture_strengths(&p, &g, 8, 9), 1, 2, field, 8, 9);
         EXPECT("field by kind", 106, deblock_picture_strengths_kind(&p, &g, 8, 9, 7), 1, 2, field, 8, 9, 7);
         EXPECT("field by flags", 105, deblock_picture_strengths_flags(&p, &g, 8, 9, 0), 1, 2, field, 8, 9);
     }
@@ -151,8 +151,8 @@ static void all_null(void)
     const struct deblock_picture p = numbered_lengths();
     const struct deblock_grids g = numbered_grid_lengths();
     EXPECT("null members", 103, deblock_picture_visit(&p, 8, 9), 1, 2, 6, 8, 9, 3, 4, 5);
-    EXPECT("null grids", 104, deblock_picture_strengths(&p, &g, 8, 9, 7), 1, 2, 1, 8, 9, 7);
-    EXPECT("no grids", 104, deblock_picture_strengths(&p, &none, 8, 9, 7), 1, 2, 1, 8, 9, 7);
+    EXPECT("null grids", 104, deblock_picture_strengths(&p, &g, 8, 9), 1, 2, 1, 8, 9);
+    EXPECT("no grids", 104, deblock_picture_strengths(&p, &none, 8, 9), 1, 2, 1, 8, 9);
 }
 
 /* t8s, ref1 and mv1 may be left out; with a length they may not, so something goes with them that may not. */
@@ -161,14 +161,17 @@ static void null_with_a_length(void)
     struct deblock_picture p = numbered();
     struct deblock_grids g = numbered_grids();
     p.t8s = NULL;
-    EXPECT("t8s", 101, deblock_picture_whole(&p), 1, 2, 6, 3, 4, 5, 31, 11, 32, 12, 33, 13, 34, 14);
+    EXPECT("t8s", 101, deblock_picture_whole(&p), 1, 2, 6, 3, 4, 5, 31, 11, 32, 12, 33, 13, 0, 0, 35, 15);
+    EXPECT("t8s", 104, deblock_picture_strengths(&p, &g, 8, 9),
+           1, 2, 1, 8, 9, 0, 0, 41, 21, 42, 22, 43, 23, 44, 24, 45, 25, 46, 26);
+    p = numbered();
     g.ref1 = NULL;
-    EXPECT("ref1", 104, deblock_picture_strengths(&p, &g, 8, 9, 7),
-           1, 2, 1, 8, 9, 7, 0, 0, 42, 22, 43, 23, 44, 24, 0, 0, 46, 26, 34, 14);
+    EXPECT("ref1", 104, deblock_picture_strengths(&p, &g, 8, 9),
+           1, 2, 1, 8, 9, 36, 16, 0, 0, 42, 22, 43, 23, 44, 24, 0, 0, 46, 26, 34, 14);
     g = numbered_grids();
     g.mv1 = NULL;
-    EXPECT("mv1", 104, deblock_picture_strengths(&p, &g, 8, 9, 7),
-           1, 2, 1, 8, 9, 7, 0, 0, 42, 22, 43, 23, 44, 24, 45, 25, 0, 0, 34, 14);
+    EXPECT("mv1", 104, deblock_picture_strengths(&p, &g, 8, 9),
+           1, 2, 1, 8, 9, 36, 16, 0, 0, 42, 22, 43, 23, 44, 24, 45, 25, 0, 0, 34, 14);
 }
 
 int main(void)

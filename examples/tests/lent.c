@@ -9,7 +9,7 @@ static void expect_all(const char *what, uint32_t filtering, uint32_t deriving,
     expect(what, filtering, deblock_picture_whole(p));
     expect(what, filtering, deblock_picture_rows(p, 0, p->h));
     expect(what, filtering, deblock_picture_visit(p, 0, 0));
-    expect(what, deriving, deblock_picture_strengths(p, g, 0, 0, 0));
+    expect(what, deriving, deblock_picture_strengths(p, g, 0, 0));
     expect(what, deriving, deblock_picture_strengths_flags(p, g, 0, 0, 0));
     expect(what, deriving, deblock_picture_strengths_kind(p, g, 0, 0, DEBLOCK_INTER));
 }
@@ -31,16 +31,18 @@ static void not_lent(void)
     expect("no marks", DEBLOCK_MACROBLOCK_GRID_LENGTH, deblock_picture_visit(&p, 0, 0));
 }
 
-/* Each line takes one pointer more away; what is refused for it comes earlier in the order of checks. */
+/* The flags by themselves. Then each line takes one pointer more away; what is refused for it comes earlier
+ * in the order of checks. */
 static void null_with_a_length(void)
 {
     struct deblock_picture p = lend_picture();
     struct deblock_grids g = lend_grids();
     p.t8s_len = N;
-    expect_all("8x8 flags", DEBLOCK_MACROBLOCK_GRID_LENGTH, DEBLOCK_DONE, &p, &g);
+    expect_all("8x8 flags", DEBLOCK_MACROBLOCK_GRID_LENGTH, DEBLOCK_MACROBLOCK_GRID_LENGTH, &p, &g);
+    p.t8s_len = 0;
     g.ref1_len = 16 * N;
     g.mv1_len = 32 * N;
-    expect_all("list 1", DEBLOCK_MACROBLOCK_GRID_LENGTH, DEBLOCK_BLOCK_GRID_LENGTH, &p, &g);
+    expect_all("list 1", DEBLOCK_DONE, DEBLOCK_BLOCK_GRID_LENGTH, &p, &g);
     p.strengths = NULL;
     expect_all("strengths", DEBLOCK_MACROBLOCK_GRID_LENGTH, DEBLOCK_MACROBLOCK_GRID_LENGTH, &p, &g);
     p.v = NULL;

@@ -59,8 +59,7 @@ pub struct Offsets {
     pub chroma: i32,
 }
 
-/// What the caller knows of a macroblock, which then has a 4x4 transform. A kind that is not true of the
-/// grids is refused.
+/// What the caller knows of a macroblock. A kind that is not true of the grids is refused.
 #[derive(Clone, Copy, PartialEq, Eq, Debug)]
 pub enum Kind {
     /// All 16 blocks are intra.
@@ -81,8 +80,6 @@ pub struct Flags {
     pub flat: bool,
     /// All 16 blocks are inter with the same motion.
     pub uniform: bool,
-    /// The transform is 8x8.
-    pub t8: bool,
 }
 
 /// The 4x4 grids of a picture, in rows of 4 * W blocks. The two grids of list 1 may both be left empty: no
@@ -91,7 +88,8 @@ pub struct Flags {
 pub struct Grids<'a> {
     /// 1 if inter, else 0; 16 a macroblock.
     pub inter: &'a [u8],
-    /// Counts of luma coefficients; 16 a macroblock.
+    /// Counts of luma coefficients; 16 a macroblock. Where the macroblock's 8x8 flag is set, a count in any
+    /// of the four blocks of an 8x8 block stands for all four.
     pub nnz: &'a [u8],
     /// References in list 0 by the number of the picture, -1 for none, as in intra blocks; 16 a macroblock.
     /// Where the picture is a field its references are fields, each with a number of its own.

@@ -33,7 +33,7 @@
 //!     ..Picture::default()
 //! };
 //! for at in size.places() {
-//!     picture.derive(grids, at, false).ok()?;
+//!     picture.derive(grids, at).ok()?;
 //! }
 //! assert!(picture.visit(Place { x: 0, y: 0 }).is_done());
 //! let early = picture.visit(Place { x: 0, y: 1 });

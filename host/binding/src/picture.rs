@@ -37,7 +37,7 @@ pub struct Picture<'a> {
     pub strengths: &'a mut [u8],
     /// n luma QPs, 0 to 51.
     pub qps: &'a [u8],
-    /// n 8x8 flags, 0 or 1. If it is empty, no flag is set.
+    /// n 8x8 flags, 0 or 1, which all calls read. If it is empty, no flag is set.
     pub t8s: &'a [u8],
     /// n marks, 1 where a macroblock was visited, all 0 at the start. Visits write them.
     pub marks: &'a mut [u8],
@@ -62,16 +62,16 @@ impl Picture<'_> {
         Answer::of(wire::visit(self, self.part as u8, at))
     }
 
-    /// Writes the 32 strengths of a macroblock of which nothing is known but whether its transform is 8x8. It
-    /// reads the grids of the macroblock and the nearest blocks of its left and upper neighbours, so these
-    /// have to be there: it cannot tell a block that has not arrived from one that has.
-    pub fn derive(&mut self, grids: Grids, at: Place, t8: bool) -> Answer {
-        Answer::of(wire::strengths(self, self.field(), grids, at, t8.into()))
+    /// Writes the 32 strengths of a macroblock of which nothing is known. It reads the grids of the
+    /// macroblock, the nearest blocks of its left and upper neighbours and the 8x8 flags of all three, so
+    /// these have to be there: it cannot tell a block that has not arrived from one that has.
+    pub fn derive(&mut self, grids: Grids, at: Place) -> Answer {
+        Answer::of(wire::strengths(self, self.field(), grids, at))
     }
 
     /// The same for a macroblock that may be known to be flat or uniform.
     pub fn derive_by_flags(&mut self, grids: Grids, at: Place, flags: Flags) -> Answer {
-        let flags = [flags.flat, flags.uniform, flags.t8].map(u8::from);
+        let flags = [flags.flat, flags.uniform].map(u8::from);
         Answer::of(wire::strengths_flags(self, self.field(), grids, at, flags))
     }
 
@@ -84,6 +84,9 @@ impl Picture<'_> {
         (self.part != Part::Frame).into()
     }
 }
+
+#[cfg(test)]
+mod strength_tests;
 
 #[cfg(test)]
 mod tests {
@@ -186,69 +189,11 @@ mod tests {
 
     const AT: Place = Place { x: 0, y: 0 };
 
-    /// What a strength call answers for one macroblock, and the strengths that it leaves where 9 stood.
-    fn one(call: impl Fn(&mut Picture) -> Answer) -> (Answer, [u8; 32]) {
-        let mut strengths = [9; 32];
-        let mut p = Picture { size: Size { w: 1, h: 1 }, strengths: &mut strengths, ..Picture::default() };
-        (call(&mut p), strengths)
-    }
-
-    /// An intra macroblock, a flat one, one with a count, and one with a vector of its own.
-    #[test]
-    fn kinds_are_held_to_the_grids() {
-        let kinds = [Kind::Intra, Kind::Skip, Kind::InterUniform, Kind::Inter];
-        let cases = [(0, 0, 7, "1000"), (1, 0, 7, "0111"), (1, 1, 7, "0011"), (1, 0, 99, "0001")];
-        for (inter, count, vector, truths) in cases {
-            let (mut nnz, mut mv0) = ([0; 16], [7; 32]);
-            (nnz[0], mv0[0]) = (count, vector);
-            let grids = Grids { inter: &[inter; 16], nnz: &nnz, ref0: &[5; 16], mv0: &mv0, ..Grids::default() };
-            let answers = kinds.map(|kind| one(|p| p.derive_by_kind(grids, AT, kind)).0);
-            let done: String = answers.map(|answer| if answer.is_done() { '1' } else { '0' }).iter().collect();
-            assert_eq!(done, truths);
-        }
-    }
-
-    /// A macroblock of one motion with counts, which is uniform and not flat: 2 on the edges inside, of which
-    /// an 8x8 transform has only the middle ones.
-    #[test]
-    fn flags_are_held_to_the_grids() {
-        let grids = Grids { inter: &[1; 16], nnz: &[1; 16], ref0: &[5; 16], mv0: &[7; 32], ..Grids::default() };
-        let by_flags = |flags| one(|p| p.derive_by_flags(grids, AT, flags));
-        let middle = (Answer::Done, std::array::from_fn(|i| if i / 4 % 4 == 2 { 2 } else { 0 }));
-        let inside = (Answer::Done, std::array::from_fn(|i| if i / 4 % 4 == 0 { 0 } else { 2 }));
-        assert_eq!(by_flags(Flags { flat: true, ..Flags::default() }), (Answer::Untrue, [9; 32]));
-        assert_eq!(by_flags(Flags { uniform: true, ..Flags::default() }), inside);
-        assert_eq!(by_flags(Flags { t8: true, ..Flags::default() }), middle);
-        assert_eq!([true, false].map(|t8| one(|p| p.derive(grids, AT, t8))), [middle, inside]);
-    }
-
-    /// A macroblock under an intra one, whose lower half moves by 2 quarter samples: in a field the upper
-    /// edge gets 3 and not 4, and the vectors are far.
-    #[test]
-    fn fields_have_strengths_of_their_own() {
-        let inter: Vec<u8> = (0..32).map(|block| block / 16).collect();
-        let mv0: Vec<i16> = (0..32).flat_map(|block| [0, block / 24 * 2]).collect();
-        let grids = Grids { inter: &inter, nnz: &[0; 32], ref0: &[0; 32], mv0: &mv0, ..Grids::default() };
-        let at = Place { x: 0, y: 1 };
-        for (part, upper, middle) in [(Part::Frame, 4, 0), (Part::TopField, 3, 1), (Part::BottomField, 3, 1)] {
-            for call in 0..3 {
-                let strengths = &mut [9; 64];
-                let mut p = Picture { size: Size { w: 1, h: 2 }, part, strengths, ..Picture::default() };
-                let answer = match call {
-                    0 => p.derive(grids, at, false),
-                    1 => p.derive_by_flags(grids, at, Flags::default()),
-                    _ => p.derive_by_kind(grids, at, Kind::Inter),
-                };
-                assert_eq!((answer, p.strengths[48], p.strengths[56]), (Answer::Done, upper, middle));
-            }
-        }
-    }
-
     #[test]
     fn nothing_lent_is_refused() {
         assert_eq!(Picture::default().whole(), Answer::BadSize);
         let mut p = Picture { size: Size { w: 1, h: 1 }, ..Picture::default() };
-        assert_eq!([p.whole(), p.derive(Grids::default(), AT, false)], {
+        assert_eq!([p.whole(), p.derive(Grids::default(), AT)], {
             [Answer::PlaneLength, Answer::MacroblockGridLength]
         });
     }

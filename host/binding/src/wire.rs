@@ -28,20 +28,23 @@ mod c {
     extern "C" {
         pub fn deblock_strengths_kind(
             w: usize, h: usize, field: u8, x: usize, y: usize, kind: u8,
+            t8s: *const u8, t8s_len: usize,
             inter: *const u8, inter_len: usize, nnz: *const u8, nnz_len: usize,
             ref0: *const i8, ref0_len: usize, mv0: *const i16, mv0_len: usize,
             ref1: *const i8, ref1_len: usize, mv1: *const i16, mv1_len: usize,
             strengths: *mut u8, strengths_len: usize,
         ) -> u32;
         pub fn deblock_strengths_flags(
-            w: usize, h: usize, field: u8, x: usize, y: usize, flat: u8, uniform: u8, t8: u8,
+            w: usize, h: usize, field: u8, x: usize, y: usize, flat: u8, uniform: u8,
+            t8s: *const u8, t8s_len: usize,
             inter: *const u8, inter_len: usize, nnz: *const u8, nnz_len: usize,
             ref0: *const i8, ref0_len: usize, mv0: *const i16, mv0_len: usize,
             ref1: *const i8, ref1_len: usize, mv1: *const i16, mv1_len: usize,
             strengths: *mut u8, strengths_len: usize,
         ) -> u32;
         pub fn deblock_strengths(
-            w: usize, h: usize, field: u8, x: usize, y: usize, t8: u8,
+            w: usize, h: usize, field: u8, x: usize, y: usize,
+            t8s: *const u8, t8s_len: usize,
             inter: *const u8, inter_len: usize, nnz: *const u8, nnz_len: usize,
             ref0: *const i8, ref0_len: usize, mv0: *const i16, mv0_len: usize,
             ref1: *const i8, ref1_len: usize, mv1: *const i16, mv1_len: usize,
@@ -85,6 +88,7 @@ pub fn strengths_kind(p: &mut Picture, field: u8, g: Grids, at: Place, kind: u8)
     unsafe {
         c::deblock_strengths_kind(
             p.size.w, p.size.h, field, at.x, at.y, kind,
+            p.t8s.as_ptr(), p.t8s.len(),
             g.inter.as_ptr(), g.inter.len(), g.nnz.as_ptr(), g.nnz.len(),
             g.ref0.as_ptr(), g.ref0.len(), g.mv0.as_ptr(), g.mv0.len(),
             g.ref1.as_ptr(), g.ref1.len(), g.mv1.as_ptr(), g.mv1.len(),
@@ -93,12 +97,13 @@ pub fn strengths_kind(p: &mut Picture, field: u8, g: Grids, at: Place, kind: u8)
     }
 }
 
-/// Strengths of a macroblock with the flags flat, uniform and 8x8, each set unless 0.
-pub fn strengths_flags(p: &mut Picture, field: u8, g: Grids, at: Place, [flat, uniform, t8]: [u8; 3]) -> u32 {
+/// Strengths of a macroblock with the flags flat and uniform, each set unless 0.
+pub fn strengths_flags(p: &mut Picture, field: u8, g: Grids, at: Place, [flat, uniform]: [u8; 2]) -> u32 {
     // SAFETY: as above.
     unsafe {
         c::deblock_strengths_flags(
-            p.size.w, p.size.h, field, at.x, at.y, flat, uniform, t8,
+            p.size.w, p.size.h, field, at.x, at.y, flat, uniform,
+            p.t8s.as_ptr(), p.t8s.len(),
             g.inter.as_ptr(), g.inter.len(), g.nnz.as_ptr(), g.nnz.len(),
             g.ref0.as_ptr(), g.ref0.len(), g.mv0.as_ptr(), g.mv0.len(),
             g.ref1.as_ptr(), g.ref1.len(), g.mv1.as_ptr(), g.mv1.len(),
@@ -107,12 +112,13 @@ pub fn strengths_flags(p: &mut Picture, field: u8, g: Grids, at: Place, [flat, u
     }
 }
 
-/// Strengths of a macroblock from the grids and the 8x8 flag alone, which is set unless 0.
-pub fn strengths(p: &mut Picture, field: u8, g: Grids, at: Place, t8: u8) -> u32 {
+/// Strengths of a macroblock of which nothing is known.
+pub fn strengths(p: &mut Picture, field: u8, g: Grids, at: Place) -> u32 {
     // SAFETY: as above.
     unsafe {
         c::deblock_strengths(
-            p.size.w, p.size.h, field, at.x, at.y, t8,
+            p.size.w, p.size.h, field, at.x, at.y,
+            p.t8s.as_ptr(), p.t8s.len(),
             g.inter.as_ptr(), g.inter.len(), g.nnz.as_ptr(), g.nnz.len(),
             g.ref0.as_ptr(), g.ref0.len(), g.mv0.as_ptr(), g.mv0.len(),
             g.ref1.as_ptr(), g.ref1.len(), g.mv1.as_ptr(), g.mv1.len(),

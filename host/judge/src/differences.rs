@@ -129,7 +129,8 @@ pub struct Seen {
     pub ended: bool,
 }
 
-/// Lends the request to the original as it is. A panic is an outcome, and is not printed; one in the
+/// Lends the request to the original as it is; of 8x8 flags its strength calls are told the macroblock's own,
+/// by kind none. A panic is an outcome, and is not printed; one in the
 /// conversion to the original's types is none, since nobody could have made that call: it ends the program.
 pub fn original(q: &Request) -> Seen {
     assert!(q.call != Call::Visit && q.kind < 4, "the original has no such call");
@@ -139,10 +140,11 @@ pub fn original(q: &Request) -> Seen {
     let stored = (!q.call.is_strengths()).then(|| Stored::new(q.w, q.h, &q.strengths, &q.qps, &q.t8s));
     let [a, b, chroma] = q.offsets;
     let offsets = Offsets { a, b, chroma };
+    let t8 = q.t8s.get(q.at()) == Some(&1);
     let planes = Planes { luma: &mut after.luma, u: &mut after.u, v: &mut after.v };
     let call = AssertUnwindSafe(|| match (q.call, &stored) {
         (Call::Kind, _) => Some(blocks.by_kind(q.x, q.y, q.kind)),
-        (Call::Flags, _) => Some(blocks.by_flags(q.x, q.y, q.flat != 0, q.uniform != 0, q.t8 != 0)),
+        (Call::Flags, _) => Some(blocks.by_flags(q.x, q.y, q.flat != 0, q.uniform != 0, t8)),
         (Call::Rows, Some(stored)) => {
             stored.filter_rows(planes, q.first..q.last, offsets);
             None
@@ -151,7 +153,7 @@ pub fn original(q: &Request) -> Seen {
             stored.filter_frame(planes, offsets);
             None
         }
-        _ => Some(blocks.flagless(q.x, q.y, q.t8 != 0)),
+        _ => Some(blocks.flagless(q.x, q.y, t8)),
     });
     let hook = take_hook();
     set_hook(Box::new(|_| ()));

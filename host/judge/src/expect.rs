@@ -1,9 +1,9 @@
 //! What a call must answer and leave behind: the number by the table of refusals, the rest by the Rust
-//! original for a frame and by the model for a field, which the original does not have.
+//! original, or by the model where the original does not have what is asked for.
 
 use crate::model::Model;
 use crate::original;
-use crate::request::{Call, Request, Structure};
+use crate::request::{Call, Request};
 use crate::table;
 
 /// Puts the request into the state that the call must leave, and gives the number that it must answer.
@@ -16,22 +16,21 @@ pub fn expect(r: &mut Request) -> u32 {
 }
 
 fn work(r: &mut Request) {
-    match r.structure() {
-        Structure::Frame => assert!(original::work(r), "the original has frames"),
-        Structure::Field => Model::default().work(r),
+    if original::decides(r) {
+        assert!(original::work(r), "the original has what is asked for");
+    } else {
+        Model::default().work(r);
     }
 }
 
 /// What the other of the two makes of a call that is not refused; none where the original cannot be asked.
 pub fn second_opinion(r: &Request) -> Option<Request> {
     let mut other = r.clone();
-    match r.structure() {
-        Structure::Frame => {
-            Model::default().work(&mut other);
-            Some(other)
-        }
-        Structure::Field => original::work(&mut other).then_some(other),
+    if original::decides(r) {
+        Model::default().work(&mut other);
+        return Some(other);
     }
+    original::work(&mut other).then_some(other)
 }
 
 /// The planes of `r` after just the marked macroblocks in raster order: demand 3's picture. `r` holds the

@@ -1,5 +1,5 @@
-//! Compares the proved archive with the Rust original, in fields and streams with models, every answer and
-//! every lent byte.
+//! Compares the proved archive with the Rust original, in fields, under 8x8 flags and in streams with models,
+//! every answer and every lent byte.
 
 mod arrivals;
 mod counts;
@@ -10,6 +10,7 @@ mod fence;
 mod make;
 mod mistakes;
 mod model;
+mod model_counts;
 mod model_lines;
 mod model_numbers;
 mod model_strengths;
@@ -23,6 +24,7 @@ mod session;
 mod shrink;
 mod small;
 mod small_fields;
+mod small_flags;
 mod streams;
 mod subject;
 mod table;
@@ -37,8 +39,9 @@ use std::time::{Duration, Instant};
 use subject::Archive;
 
 const HELP: &str = "judge: compares the proved archive with the Rust original, every answer and every lent byte,
-and in fields, which the original does not have, with a model of the rules that agrees with the original;
-streams, which it does not have either, with a reading of them that was written on its own
+and in what the original does not have, fields and coefficients of 8x8 blocks, with a model of the rules that
+agrees with the original; streams, which it does not have either, with a reading of them that was written on
+its own
 
   judge bounded [SEED]       all small cases, then 80 rounds of random ones: about a minute
   judge long SECONDS [SEED]  all small cases, then rounds until the time is over

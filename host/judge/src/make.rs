@@ -97,6 +97,36 @@ fn qps(r: &mut Rng, n: usize) -> Vec<u8> {
 
 /// A strength call on grids of mixed macroblocks, asked with what is true most of the time.
 pub fn grids(r: &mut Rng, of: Structure, call: Call, w: usize, h: usize) -> Request {
+    let mut q = blocks(r, of, call, w, h);
+    q.t8s = match r.below(4) {
+        0 => Vec::new(),
+        1 => vec![0; w * h],
+        2 => vec![1; w * h],
+        _ => (0..w * h).map(|_| r.below(2) as u8).collect(),
+    }
+    .into();
+    if r.once_in(3) {
+        spread_counts(&mut q);
+    }
+    place(r, &mut q);
+    q
+}
+
+/// Under the 8x8 flag no count tells a block from its 8x8 block any more: all four get the largest.
+pub fn spread_counts(q: &mut Request) {
+    let line = 4 * q.w;
+    for i in 0..4 * q.w * q.h {
+        let corner = i / (2 * q.w) * 2 * line + i % (2 * q.w) * 2;
+        if q.t8s.get(q.macroblock_of(corner)) == Some(&1) {
+            let four = [corner, corner + 1, corner + line, corner + line + 1];
+            let count = four.map(|block| q.nnz[block]).into_iter().max().expect("there are four");
+            four.into_iter().for_each(|block| q.nnz[block] = count);
+        }
+    }
+}
+
+/// The grids of 4x4 blocks alone, for the last macroblock.
+pub fn blocks(r: &mut Rng, of: Structure, call: Call, w: usize, h: usize) -> Request {
     let n = 16 * w * h;
     let mut q = Request::new(call, w, h);
     q.part = part(r, of, &[1, 2, 128, 255]);
@@ -114,14 +144,12 @@ pub fn grids(r: &mut Rng, of: Structure, call: Call, w: usize, h: usize) -> Requ
         (q.x, q.y) = (m % w, m / w);
         macroblock(r, &mut q, &motions);
     }
-    place(r, &mut q);
     q
 }
 
-/// Another macroblock, and other flags, of the same grids.
+/// Another macroblock of the same grids, and what is said of it.
 pub fn place(r: &mut Rng, q: &mut Request) {
     (q.x, q.y) = (r.below(q.w), r.below(q.h));
-    q.t8 = r.pick(&[0, 0, 1, 255]);
     q.flat = r.pick(&[0, 0, 1, 128]);
     q.uniform = r.pick(&[0, 0, 1, 2]);
     let mut is_true = |kind: &u8| {

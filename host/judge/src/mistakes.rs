@@ -55,6 +55,22 @@ mistakes! {
     VerticalIgnored "far on x only"
     VectorsWrap "vector differences wrap at 16 bits"
     FlagKeepsStrengths "inner strengths are kept under 8x8"
+    KindKeepsStrengths "likewise by kind alone"
+    CountsOfBlocks "under 8x8 a count stands for its own block alone, as in the original"
+    CountsOfBlocksOnP "likewise on p's side of an edge alone"
+    CountsOfMacroblock "under 8x8 a count stands for its whole macroblock"
+    FourFlagged "of a neighbour with 8x8 the four nearest counts alone"
+    TwelveFlagged "of a neighbour with 8x8 the twelve nearest counts"
+    EightUnflagged "of a neighbour without 8x8 the eight nearest counts"
+    OwnFlagBeside "the macroblock's own 8x8 flag says how its neighbours' counts are taken"
+    FlagBesideWithin "a neighbour's 8x8 flag says how the own counts beside it are taken"
+    OwnFlagAsked "7 asks no neighbour's 8x8 flag in a strength call"
+    UpperRightFlagAsked "7 asks the upper right neighbour's 8x8 flag in a strength call"
+    AllFlagsAsked "7 asks all 8x8 flags in a strength call"
+    EightInterAsked "7 and 11 ask eight inter bytes of a neighbour with 8x8"
+    EightReferencesAsked "10 asks the references of eight blocks of a neighbour with 8x8"
+    FlagLengthUnasked "4 does not ask about 8x8 flags in a strength call"
+    NoFlagsRefused "empty 8x8 flags are refused in a strength call"
     NoUpperRight "ready without the upper right neighbour: the old release"
     MarkForgotten "a visit sets no mark"
     MarksWhenNotReady "a visit that is not ready sets its mark"
@@ -98,7 +114,7 @@ pub struct Kind {
 
 const FILTERS: Kind = Kind {
     wrong: "wrong filters",
-    faultless: "the rules as a plain program: equal to the Rust original, in fields as far as that can be asked",
+    faultless: "the rules as a plain program: equal to the Rust original, as far as that can be asked",
     at_fault: "the model without a mistake is not equal to the Rust original: the judge is at fault",
 };
 

@@ -1,8 +1,9 @@
 //! The rules of docs/RULES.md as a plain program, which can be told to make one mistake.
 //!
-//! Without a mistake it is what a field is held to, and a second opinion on frames beside the Rust original:
-//! `judge bounded` and `judge mutants` ask that the two agree. It finds the lines of a field where they lie
-//! in the frame; what the original is asked of a field (original.rs) has them taken out.
+//! Without a mistake it is what a field is held to, and a strength call that reads an 8x8 flag which is set;
+//! elsewhere it is a second opinion beside the Rust original: `judge bounded` and `judge mutants` ask that
+//! the two agree. It finds the lines of a field where they lie in the frame; what the original is asked of a
+//! field (original.rs) has them taken out.
 
 use crate::mistakes::Mistake;
 use crate::request::{Call, Request};

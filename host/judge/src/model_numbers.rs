@@ -12,6 +12,15 @@ fn with(r: &Request, change: impl Fn(&mut Request)) -> u32 {
     table::answer(&other)
 }
 
+/// What the table first refuses where of a neighbour with the 8x8 flag a block behind the nearest four takes
+/// the place of the nearest.
+fn with_behind(r: &Request, take: impl Fn(&mut Request, usize, usize)) -> Option<u32> {
+    let four = table::blocks_read(r).concat();
+    let behind = table::counts_read(r).into_iter().filter(|block| !four.contains(block));
+    let nearest = |block: usize| if four.contains(&(block + 1)) { block + 1 } else { block + 4 * r.w };
+    behind.map(|block| with(r, |q| take(q, nearest(block), block))).find(|number| *number != 0)
+}
+
 impl Model {
     pub fn number(&self, r: &Request) -> u32 {
         let number = table::answer(r);
@@ -57,6 +66,26 @@ impl Model {
             Mistake::EmptyListOneRefused if done && r.ref1.is_empty() => Some(5),
             Mistake::FlatNeedsUniform if done && r.call == Call::Flags && r.flat != 0 && r.uniform == 0 => Some(12),
             Mistake::StrengthsAskPart if done && r.part > 2 => Some(19),
+            _ if r.call.is_strengths() => self.wrong_flags(r, number),
+            _ => None,
+        }
+    }
+
+    /// Of 8x8 flags, in strength calls.
+    fn wrong_flags(&self, r: &Request, number: u32) -> Option<u32> {
+        let after_7 = [0, 10, 11, 12].contains(&number);
+        match self.mistake? {
+            Mistake::FlagLengthUnasked if number == 4 => Some(with(r, |q| q.t8s = Vec::new().into())),
+            Mistake::NoFlagsRefused if number == 0 && r.t8s.is_empty() => Some(4),
+            Mistake::OwnFlagAsked if number == 7 => {
+                Some(with(r, |q| q.t8s.iter_mut().take(r.at()).for_each(|flag| *flag = 1.min(*flag))))
+            }
+            Mistake::AllFlagsAsked if after_7 && r.t8s.iter().any(|flag| *flag > 1) => Some(7),
+            Mistake::UpperRightFlagAsked if after_7 && r.y > 0 && r.x + 1 < r.w => {
+                r.t8s.get(r.at() - r.w + 1).filter(|flag| **flag > 1).map(|_| 7)
+            }
+            Mistake::EightInterAsked if number == 0 => with_behind(r, |q, near, far| q.inter[near] = r.inter[far]),
+            Mistake::EightReferencesAsked if number == 0 => with_behind(r, |q, near, far| q.ref0[near] = r.ref0[far]),
             _ => None,
         }
     }

@@ -9,13 +9,12 @@ type Used = Vec<(i32, [i32; 2])>;
 
 impl Model {
     pub fn strengths(&self, r: &mut Request) {
-        let t8 = r.call != Call::Kind && r.t8 != 0;
+        let t8 = r.t8s.get(r.at()) == Some(&1) && !self.keeps_strengths(r);
         let mut own = [0; 32];
         for horizontal in [false, true] {
             for edge in 0..4 {
                 let border = edge == 0 && if horizontal { r.y == 0 } else { r.x == 0 };
-                let t8_skips = t8 && edge % 2 == 1 && !self.has(Mistake::FlagKeepsStrengths);
-                if border || t8_skips {
+                if border || t8 && edge % 2 == 1 {
                     continue;
                 }
                 for segment in 0..4 {
@@ -35,6 +34,15 @@ impl Model {
         }
         let at = 32 * r.at();
         r.strengths[at..at + 32].copy_from_slice(&own);
+    }
+
+    /// Whether the 8x8 flag skips no edge.
+    fn keeps_strengths(&self, r: &Request) -> bool {
+        match self.mistake {
+            Some(Mistake::FlagKeepsStrengths) => true,
+            Some(Mistake::KindKeepsStrengths) => r.call == Call::Kind,
+            _ => false,
+        }
     }
 
     /// Whether the strength calls take the picture for a field.
@@ -73,8 +81,7 @@ impl Model {
         if r.inter[p] == 0 || r.inter[q] == 0 {
             return if four { 4 } else { 3 };
         }
-        let counts = if self.has(Mistake::OwnCountAlone) { r.nnz[q] != 0 } else { r.nnz[p] != 0 || r.nnz[q] != 0 };
-        if counts {
+        if self.is_coded(r, q, p) || self.is_coded(r, p, q) && !self.has(Mistake::OwnCountAlone) {
             return 2;
         }
         self.differs(&self.used(r, p), &self.used(r, q), self.reach(r)) as u8

@@ -4,13 +4,28 @@
 //! out as such a frame and put back; vertical motion is lent in quarter samples of the frame, of which a
 //! field's is two (clause 8.7.2.1), and counted from the first block's, since only differences tell; and the
 //! strength 4, which a field's upper edges do not have, becomes 3 there.
+//!
+//! Nor does it know coefficients of 8x8 blocks. Where an 8x8 flag that is read is set it is asked as long as
+//! no count tells a block from its 8x8 block.
 
 use crate::request::{Buffer, Call, Request, Structure};
+use crate::table;
 use oracle::{Blocks, Grids, Offsets, Planes, Stored};
+
+/// Whether the original has just what is asked for: a frame, and for a strength call no 8x8 flag that is set.
+pub fn decides(r: &Request) -> bool {
+    r.structure() == Structure::Frame && !(r.call.is_strengths() && reads_flag(r))
+}
+
+/// Whether an 8x8 flag that is read is set.
+fn reads_flag(r: &Request) -> bool {
+    table::flags_read(r).iter().any(|&m| r.t8s[m] == 1)
+}
 
 /// Puts the request into the state that the call leaves; false if the original cannot be asked.
 pub fn work(r: &mut Request) -> bool {
     match (r.structure(), r.call.is_strengths()) {
+        (_, true) if !knows_counts(r) => return false,
         (Structure::Frame, true) => strengths(r),
         (Structure::Frame, false) => planes(r),
         (Structure::Field, true) => return field_strengths(r),
@@ -19,13 +34,25 @@ pub fn work(r: &mut Request) -> bool {
     true
 }
 
+/// Whether the original's strengths are those of the rules: where a flag is set, the counts of each 8x8 block
+/// are all 0 or all not, and the flag is not the own one of a call by kind, to which the original takes none.
+fn knows_counts(r: &Request) -> bool {
+    let is_8x8 = |m: usize| r.t8s.get(m) == Some(&1);
+    let line = 4 * r.w;
+    let corner = |block: usize| block / line / 2 * 2 * line + block % line / 2 * 2;
+    let is_alike = |block: usize| (r.nnz[block] != 0) == (r.nnz[corner(block)] != 0);
+    let alike = || table::counts_read(r).into_iter().all(|block| is_alike(block) || !is_8x8(r.macroblock_of(block)));
+    !reads_flag(r) || !(r.call == Call::Kind && is_8x8(r.at())) && alike()
+}
+
 fn strengths(r: &mut Request) {
     let grids = Grids { inter: &r.inter, nnz: &r.nnz, ref0: &r.ref0, mv0: &r.mv0, ref1: &r.ref1, mv1: &r.mv1 };
     let blocks = Blocks::new(r.w, grids);
+    let t8 = r.t8s.get(r.at()) == Some(&1);
     let own = match r.call {
         Call::Kind => blocks.by_kind(r.x, r.y, r.kind),
-        Call::Flags => blocks.by_flags(r.x, r.y, r.flat != 0, r.uniform != 0, r.t8 != 0),
-        _ => blocks.flagless(r.x, r.y, r.t8 != 0),
+        Call::Flags => blocks.by_flags(r.x, r.y, r.flat != 0, r.uniform != 0, t8),
+        _ => blocks.flagless(r.x, r.y, t8),
     };
     let at = 32 * r.at();
     r.strengths[at..at + 32].copy_from_slice(&own);
@@ -84,4 +111,30 @@ fn field_planes(r: &mut Request) {
         own.zip(field.chunks(line)).for_each(|(to, from)| to.copy_from_slice(from));
     }
     r.marks = frame.marks;
+}
+
+#[cfg(test)]
+mod tests {
+    use super::*;
+    use crate::small::kinds_picture;
+
+    /// Of (1, 0) in 2 by 1 of one motion, with these 8x8 flags and counts that tell blocks from their 8x8
+    /// blocks in both: whether the original is asked, and whether it is once the counts are spread.
+    fn asked(call: Call, t8s: [u8; 2]) -> [bool; 2] {
+        let mut q = kinds_picture(0, 2, 1, &[4; 2]);
+        (q.call, q.kind, q.x, q.t8s) = (call, 3, 1, t8s.to_vec().into());
+        q.nnz[2] = 1;
+        let mut spread = q.clone();
+        crate::make::spread_counts(&mut spread);
+        [work(&mut q), work(&mut spread)]
+    }
+
+    #[test]
+    fn counts_that_tell_a_block_from_its_8x8_block_are_not_asked_about() {
+        for call in [Call::Flags, Call::Flagless] {
+            assert_eq!([[0, 0], [0, 1], [1, 0]].map(|t8s| asked(call, t8s)), [[true; 2], [false, true], [false, true]]);
+        }
+        let kinds = [[0, 0], [0, 1], [1, 0]].map(|t8s| asked(Call::Kind, t8s));
+        assert_eq!(kinds, [[true; 2], [false; 2], [false, true]]);
+    }
 }

@@ -3,7 +3,9 @@
 
 use crate::expect::expect;
 use crate::make;
+use crate::original;
 use crate::request::{Call, Request, Structure};
+use crate::table;
 use inputs::Rng;
 use std::io::Write;
 
@@ -24,11 +26,13 @@ fn recording(seed: u64) -> Vec<u8> {
     if seed.is_multiple_of(3) {
         return write(&before, None);
     }
-    let mut grids = make::grids(&mut r, Structure::Frame, Call::Flagless, w, h);
+    let mut grids = make::blocks(&mut r, Structure::Frame, Call::Flagless, w, h);
+    grids.t8s = before.t8s.clone();
+    make::spread_counts(&mut grids);
     for m in 0..w * h {
         (grids.x, grids.y) = (m % w, m / w);
-        grids.t8 = before.t8s.get(m).copied().unwrap_or(0);
-        assert_eq!(expect(&mut grids), 0, "made grids are good");
+        assert_eq!(table::answer(&grids), 0, "made grids are good");
+        assert!(original::work(&mut grids), "the original can be asked where counts are spread");
     }
     let mut before = before;
     before.strengths = grids.strengths.clone();

@@ -31,8 +31,8 @@ const DAMAGES: [(u32, Damage); 25] = [
         let value = r.pick(&[2, 3, 128, 255]);
         match q.call {
             Call::Visit if r.once_in(2) => spoil_near(r, q, |q| &mut q.marks, value),
-            Call::Whole | Call::Rows | Call::Visit => spoil_near(r, q, |q| &mut q.t8s, value),
-            _ => spoil_near(r, q, |q| &mut q.inter, value),
+            Call::Kind | Call::Flags | Call::Flagless if r.once_in(2) => spoil_near(r, q, |q| &mut q.inter, value),
+            _ => spoil_near(r, q, |q| &mut q.t8s, value),
         }
     }),
     (8, |r, q| {
@@ -127,10 +127,10 @@ fn good(r: &mut Rng, of: Structure, call: Call, area: usize) -> Request {
     q
 }
 
-/// One short, one long, empty, twice as long.
+/// One short, one long, empty, a single one, twice or half as long.
 fn spoil_length<T: Lent + Default>(r: &mut Rng, b: &mut Buffer<T>) {
     let len = b.len();
-    let other = r.pick(&[len.saturating_sub(1), len + 1, 0, 2 * len, len / 2]);
+    let other = r.pick(&[len.saturating_sub(1), len + 1, 0, 1, 2 * len, len / 2]);
     b.resize(other, T::default());
 }
 
@@ -153,6 +153,8 @@ fn spoil_near<T: Lent>(r: &mut Rng, q: &mut Request, member: fn(&mut Request) ->
 #[cfg(test)]
 mod tests {
     use super::*;
+    use crate::request::STRENGTH_CALLS;
+    use crate::table::answer;
 
     #[test]
     fn every_damage_calls_its_number_forth() {
@@ -160,11 +162,30 @@ mod tests {
         for (i, (number, damage)) in damages(Structure::Field).iter().enumerate() {
             let mut hits = |call: Call| {
                 let mut q = good(&mut r, Structure::Field, call, 6);
-                let before = crate::table::answer(&q);
+                let before = answer(&q);
                 damage(&mut r, &mut q);
-                before == 0 && crate::table::answer(&q) == *number
+                before == 0 && answer(&q) == *number
             };
             assert!((0..200).any(|_| CALLS.into_iter().any(&mut hits)), "damage {i} never gives {number}");
+        }
+    }
+
+    /// Of every strength call the 8x8 flags get other lengths, and bad values where they are read and where
+    /// not.
+    #[test]
+    fn flags_of_strength_calls_are_spoiled() {
+        let mut r = Rng::new(3);
+        for call in STRENGTH_CALLS {
+            let mut comes_up = |number: u32, wanted: u32| {
+                (0..200).any(|_| {
+                    let before = good(&mut r, Structure::Frame, call, 6);
+                    let mut q = before.clone();
+                    DAMAGES.iter().filter(|(own, _)| *own == number).for_each(|(_, damage)| damage(&mut r, &mut q));
+                    let flags_alone = Request { t8s: q.t8s.clone(), ..before.clone() };
+                    answer(&before) == 0 && before != flags_alone && answer(&flags_alone) == wanted
+                })
+            };
+            assert!(comes_up(4, 4) && comes_up(7, 7) && comes_up(7, 0));
         }
     }
 }

@@ -74,7 +74,6 @@ pub struct Request {
     pub kind: u8,
     pub flat: u8,
     pub uniform: u8,
-    pub t8: u8,
     /// A, B, chroma.
     pub offsets: [i32; 3],
     pub inter: Buffer<u8>,
@@ -106,7 +105,6 @@ impl Request {
             kind: 0,
             flat: 0,
             uniform: 0,
-            t8: 0,
             offsets: [0; 3],
             inter: Buffer::default(),
             nnz: Buffer::default(),
@@ -127,6 +125,11 @@ impl Request {
     /// The number of the request's macroblock in raster order.
     pub fn at(&self) -> usize {
         self.y * self.w + self.x
+    }
+
+    /// The number of the macroblock that a 4x4 block lies in.
+    pub fn macroblock_of(&self, block: usize) -> usize {
+        block / (4 * self.w) / 4 * self.w + block % (4 * self.w) / 4
     }
 
     pub fn structure(&self) -> Structure {

@@ -25,6 +25,9 @@ pub fn round(s: &mut Session, seed: u64, depth: Depth) -> Outcome {
     s.about(Structure::Frame);
     let mut r = Rng::new(seed);
     ordinary(s, &mut r, Structure::Frame, times)?;
+    for _ in 0..times(24) {
+        unread::check(s, &mut r, Structure::Frame)?;
+    }
     if depth == Depth::Full {
         large(s, &mut r, Structure::Frame, seed)?;
     }
@@ -32,7 +35,7 @@ pub fn round(s: &mut Session, seed: u64, depth: Depth) -> Outcome {
     let mut r = Rng::new(!seed);
     ordinary(s, &mut r, Structure::Field, |n| times(n) / 4)?;
     for _ in 0..times(24) {
-        unread::check(s, &mut r)?;
+        unread::check(s, &mut r, Structure::Field)?;
     }
     if depth == Depth::Full && seed.is_multiple_of(16) {
         large(s, &mut r, Structure::Field, seed / 16)?;

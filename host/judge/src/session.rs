@@ -2,6 +2,7 @@
 
 use crate::counts::Counts;
 use crate::expect::{expect, second_opinion};
+use crate::original;
 use crate::request::{Call, Request, Structure};
 use crate::shrink;
 use crate::subject::Subject;
@@ -30,18 +31,18 @@ pub struct Session<'a> {
     counts: Counts<(Structure, &'static str, Call)>,
     /// For each other kind of comparison (a whole picture after visits), how many were made.
     others: BTreeMap<&'static str, u64>,
-    /// Calls on frames that were done.
-    frames_done: u64,
+    /// Calls that were done as the original decides.
+    by_original: u64,
 }
 
-/// Of so many calls on a frame that are done, the model is asked about one. The original is asked about every
-/// call on a field.
+/// Of so many calls that the original decides, the model is asked about one. The original is asked about
+/// every call that the model decides, as far as it can be.
 const MODEL_ASKED: u64 = 8;
 
 impl<'a> Session<'a> {
     pub fn new(subject: &'a dyn Subject, thorough: bool) -> Self {
         let (counts, others) = (Counts::new(), BTreeMap::new());
-        Session { subject, thorough, of: Structure::Frame, counts, others, frames_done: 0 }
+        Session { subject, thorough, of: Structure::Frame, counts, others, by_original: 0 }
     }
 
     /// From now on runs are about frames, or about fields: a field's part may be wrong, and be that of a
@@ -78,19 +79,15 @@ impl<'a> Session<'a> {
         }
     }
 
-    /// Asks the model about a frame, the original about a field: what the call is held to must be what both
-    /// of them say.
+    /// Asks the model where the original decides, and the original where the model does: what the call is
+    /// held to must be what both of them say.
     fn second(&mut self, run: &'static str, r: &Request, want: &Request) -> Outcome {
-        let (asks, what) = match r.structure() {
-            Structure::Frame => {
-                self.frames_done += 1;
-                (self.frames_done.is_multiple_of(MODEL_ASKED), "calls on frames, which the model was asked about too")
-            }
-            Structure::Field => (true, "calls on fields, which the original was asked about too"),
-        };
-        let Some(other) = asks.then(|| second_opinion(r)).flatten() else { return Ok(()) };
-        self.note(what);
-        match other.difference(want) {
+        let decides = original::decides(r);
+        self.by_original += u64::from(decides);
+        let asks = !decides || self.by_original.is_multiple_of(MODEL_ASKED);
+        let other = asks.then(|| second_opinion(r)).flatten();
+        self.note(held_to(r.structure(), decides, other.is_some()));
+        match other.and_then(|other| other.difference(want)) {
             None => Ok(()),
             Some(what) => {
                 let case = shrink::describe(r);
@@ -153,6 +150,18 @@ impl<'a> Session<'a> {
 
     fn count(&mut self, run: &'static str, call: Call, number: u32) {
         self.counts.count((self.of, run, call), number);
+    }
+}
+
+/// What a call is held to, in words.
+fn held_to(of: Structure, original_decides: bool, both: bool) -> &'static str {
+    match (of, original_decides, both) {
+        (Structure::Frame, true, false) => "calls on frames, held to the original",
+        (Structure::Frame, true, true) => "calls on frames, held to the original and to the model",
+        (Structure::Frame, false, false) => "calls on frames with 8x8 flags, held to the model",
+        (Structure::Frame, false, true) => "calls on frames with 8x8 flags, held to the model and to the original",
+        (Structure::Field, _, false) => "calls on fields, held to the model",
+        (Structure::Field, _, true) => "calls on fields, held to the model and to the original",
     }
 }
 

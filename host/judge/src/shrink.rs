@@ -103,7 +103,6 @@ fn plain_numbers(best: &mut Request, fails: &impl Fn(&Request) -> bool) {
     for i in 0..3 {
         attempt(best, fails, |r| r.offsets[i] = 0);
     }
-    attempt(best, fails, |r| r.t8 = 0);
     attempt(best, fails, |r| r.flat = 0);
     attempt(best, fails, |r| r.uniform = 0);
     attempt(best, fails, |r| {
@@ -151,7 +150,7 @@ pub fn describe(r: &Request) -> String {
     let mut s = format!("{:?} w {} h {} part {}", r.call, r.w, r.h, r.part);
     let mut say = |args: std::fmt::Arguments| s.write_fmt(args).expect("a string takes everything");
     say(format_args!(" x {} y {} first {} last {}", r.x, r.y, r.first, r.last));
-    say(format_args!(" kind {} flat {} uniform {} t8 {} offsets {:?}", r.kind, r.flat, r.uniform, r.t8, r.offsets));
+    say(format_args!(" kind {} flat {} uniform {} offsets {:?}", r.kind, r.flat, r.uniform, r.offsets));
     let entries = [
         entries("inter (else 1)", &r.inter, 1),
         entries("nnz", &r.nnz, 0),

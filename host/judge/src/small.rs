@@ -4,9 +4,10 @@ use crate::make;
 use crate::request::{Call, Request, Structure};
 use crate::session::{Outcome, Session};
 use crate::small_fields;
+use crate::small_flags;
 use inputs::{Rng, Texture};
 
-const SIZES: [(usize, usize); 4] = [(1, 1), (2, 1), (1, 2), (2, 2)];
+pub const SIZES: [(usize, usize); 4] = [(1, 1), (2, 1), (1, 2), (2, 2)];
 
 /// All the exhaustive runs; `share` 1 is all of it, 2 every second case, and so on.
 pub fn run(s: &mut Session, share: usize) -> Outcome {
@@ -22,6 +23,7 @@ pub fn run(s: &mut Session, share: usize) -> Outcome {
             every_pair_of_chroma_qps(s, &mut thin, part)?;
             every_pair_of_motions(s, &mut thin, part)?;
             every_kind_of_macroblock(s, &mut thin, part)?;
+            small_flags::run(s, &mut thin, part)?;
         }
     }
     small_fields::run(s, &mut thin)
@@ -171,8 +173,10 @@ pub fn two_macroblocks(part: u8, w: usize, h: usize, lists: [[Motion; 2]; 2]) ->
     q
 }
 
-/// Every picture of eight kinds of macroblock on the four smallest sizes, asked in every way, true or not.
+/// Every picture of eight kinds of macroblock on the four smallest sizes, without 8x8 flags and with some,
+/// asked in every way, true or not.
 fn every_kind_of_macroblock(s: &mut Session, thin: &mut Thin, part: u8) -> Outcome {
+    let mut r = Rng::new(5);
     for (w, h) in SIZES {
         let n = w * h;
         for code in 0..8usize.pow(n as u32) {
@@ -181,37 +185,32 @@ fn every_kind_of_macroblock(s: &mut Session, thin: &mut Thin, part: u8) -> Outco
             }
             let kinds: Vec<usize> = (0..n).map(|m| code / 8usize.pow(m as u32) % 8).collect();
             let mut q = kinds_picture(part, w, h, &kinds);
-            for m in 0..n {
-                (q.x, q.y) = (m % w, m / w);
-                ask_in_every_way(s, &mut q)?;
-            }
+            ask_everywhere(s, &mut q)?;
+            q.t8s = (0..n).map(|_| r.below(2) as u8).collect::<Vec<u8>>().into();
+            ask_everywhere(s, &mut q)?;
         }
     }
     Ok(())
 }
 
-fn ask_in_every_way(s: &mut Session, q: &mut Request) -> Outcome {
-    q.call = Call::Kind;
-    for kind in 0..5 {
-        q.kind = kind;
-        s.check("small", q)?;
-    }
-    q.call = Call::Flags;
-    for flags in 0..8 {
-        (q.flat, q.uniform, q.t8) = (flags & 1, flags & 2, flags & 4);
-        s.check("small", q)?;
-    }
-    q.call = Call::Flagless;
-    for t8 in 0..2 {
-        q.t8 = t8;
-        s.check("small", q)?;
+/// Of each macroblock by every kind, a wrong one among them, with all flags and with nothing known.
+pub fn ask_everywhere(s: &mut Session, q: &mut Request) -> Outcome {
+    let kinds = (0..5).map(|kind| (Call::Kind, kind));
+    let ways: Vec<(Call, u8)> =
+        kinds.chain((0..4).map(|flags| (Call::Flags, flags))).chain([(Call::Flagless, 0)]).collect();
+    for m in 0..q.w * q.h {
+        (q.x, q.y) = (m % q.w, m / q.w);
+        for (call, number) in &ways {
+            (q.call, q.kind, q.flat, q.uniform) = (*call, *number, number & 1, number & 2);
+            s.check("small", q)?;
+        }
     }
     Ok(())
 }
 
 /// 0, 1 intra; 2 flat; 3 flat, another picture; 4 uniform with a coefficient; 5 halves; 6 both lists; 7 a
 /// lone far block. What is far is so across, in a field down.
-fn kinds_picture(part: u8, w: usize, h: usize, kinds: &[usize]) -> Request {
+pub fn kinds_picture(part: u8, w: usize, h: usize, kinds: &[usize]) -> Request {
     let n = 16 * w * h;
     let (down, from) = if part == 0 { (0, 4) } else { (1, 2) };
     let mut q = Request::new(Call::Kind, w, h);

@@ -64,8 +64,8 @@ impl Subject for Archive {
         let at = Place { x: r.x, y: r.y };
         match r.call {
             Call::Kind => wire::strengths_kind(&mut picture, r.part, grids, at, r.kind),
-            Call::Flags => wire::strengths_flags(&mut picture, r.part, grids, at, [r.flat, r.uniform, r.t8]),
-            Call::Flagless => wire::strengths(&mut picture, r.part, grids, at, r.t8),
+            Call::Flags => wire::strengths_flags(&mut picture, r.part, grids, at, [r.flat, r.uniform]),
+            Call::Flagless => wire::strengths(&mut picture, r.part, grids, at),
             Call::Whole => wire::whole(&mut picture, r.part),
             Call::Rows => wire::rows(&mut picture, r.part, r.first, r.last),
             Call::Visit => wire::visit(&mut picture, r.part, at),

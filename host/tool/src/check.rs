@@ -127,6 +127,24 @@ mod tests {
         }
     }
 
+    /// A recording with an 8x8 flag and a count in block 0, which counts for the whole 8x8 block: 2 on the
+    /// first half of both edges 2, and 0 on the others. Without the flag the strengths are others.
+    #[test]
+    fn strengths_by_the_flags_of_the_recording() {
+        let mut coded = changed(good(), 10, 2);
+        let flag = 14 + 768 + 3; // after the offsets and the QP
+        coded.insert(flag, 1);
+        coded[flag + 1 + 16] = 1;
+        let strengths = coded.len() - 32;
+        for k in [8, 9, 24, 25] {
+            coded[strengths + k] = 2;
+        }
+        assert!(said(&coded, false).1.starts_with("strengths: as in the file\n"));
+        let (verdict, lines) = said(&changed(coded, flag, 0), false);
+        assert_eq!(verdict, Verdict::Different);
+        assert!(lines.starts_with("strengths: 1 macroblock differs, the first is (0, 0)\n"));
+    }
+
     #[test]
     fn planes_that_differ_are_told_once() {
         let (verdict, lines) = said(&changed(good(), 14 + 384, 99), true);

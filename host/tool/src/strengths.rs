@@ -22,18 +22,18 @@ pub fn check(r: &Recording) -> Report {
 /// Those of the frame or of one field: what is wrong with them.
 fn derive(size: Size, settings: &Settings, grids: &BlockGrids) -> Vec<String> {
     let mut derived = vec![0; settings.strengths.len()];
-    let mut lent = deblock::Picture { size, part: settings.part, strengths: &mut derived, ..Default::default() };
+    let Settings { part, t8s, .. } = settings;
+    let mut lent = deblock::Picture { size, part: *part, strengths: &mut derived, t8s, ..Default::default() };
     let (mut wrong, mut refused) = (Vec::new(), Vec::new());
     for (m, at) in size.places().enumerate() {
-        let t8 = settings.t8s.get(m) == Some(&1);
-        let answer = lent.derive(grids.lent(), at, t8);
+        let answer = lent.derive(grids.lent(), at);
         if answer != Answer::Done {
             refused.push((at, answer));
         } else if lent.strengths[32 * m..][..32] != settings.strengths[32 * m..][..32] {
             wrong.push(at);
         }
     }
-    in_words(&wrong, &refused).into_iter().map(|line| part::told(settings.part, line)).collect()
+    in_words(&wrong, &refused).into_iter().map(|line| part::told(*part, line)).collect()
 }
 
 fn in_words(wrong: &[Place], refused: &[(Place, Answer)]) -> Vec<String> {

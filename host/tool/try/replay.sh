@@ -2,7 +2,7 @@
 
 pictures=$(($(find "$data" -name '*.dbv' | wc -l) + 120)) # 120 in original.dbvs
 expect 0 replay "$data"
-says "The old rule, down the columns, gives other planes than the recorder's in 44 of 163 pictures."
+says "The old rule, down the columns, gives other planes than the recorder's in 52 of 172 pictures."
 says "Pictures: $pictures equal, 0 different, 0 incomplete. Files not read: 0."
 expect 0 replay "$data/original.dbvs"
 says "original.dbvs, picture 3: "

@@ -106,8 +106,7 @@ fn decode_motion(sent: &mut Buffers, block: usize, random: &mut Random) {
     }
 }
 
-/// Under an 8x8 transform all four blocks of an 8x8 block have a count, or none has (docs/GUIDE.md, "What the
-/// numbers in the grids mean").
+/// Counts are the blocks' own, also under an 8x8 transform: the library joins those of an 8x8 block.
 fn decode_macroblock(sent: &mut Buffers, at: Place, random: &mut Random) {
     let (inter, t8) = (random.below(3) > 0, random.below(3) == 0);
     let coded = random.below(65536); // a bit a block
@@ -116,7 +115,7 @@ fn decode_macroblock(sent: &mut Buffers, at: Place, random: &mut Random) {
     for k in 0..16 {
         let block = (4 * at.y + k / 4) * 4 * SIZE.w + 4 * at.x + k % 4;
         sent.inter[block] = inter.into();
-        sent.nnz[block] = (coded >> if t8 { k / 8 * 2 + k % 4 / 2 } else { k } & 1) as u8;
+        sent.nnz[block] = (coded >> k & 1) as u8;
         decode_motion(sent, block, random);
     }
 }

@@ -57,8 +57,8 @@ impl Station {
         copy(&mut own.t8s, &sent.t8s, at, 1, 1);
     }
 
-    /// Derives the strengths of what has arrived, once the blocks to the left and above are there too. The
-    /// call could not tell that they are not, and would answer `Done` with other strengths.
+    /// Derives the strengths of what has arrived, once the blocks and 8x8 flags to the left and above are
+    /// there too. The call could not tell that they are not, and would answer `Done` with other strengths.
     fn derive(&mut self) -> Result<(), Answer> {
         let (mut picture, grids) = self.buffers.lend();
         for at in SIZE.places() {
@@ -66,7 +66,7 @@ impl Station {
             let left = at.x == 0 || self.arrived[i - 1];
             let upper = at.y == 0 || self.arrived[i - SIZE.w];
             if !self.derived[i] && self.arrived[i] && left && upper {
-                picture.derive(grids, at, picture.t8s[i] == 1).ok()?;
+                picture.derive(grids, at).ok()?;
                 self.derived[i] = true;
             }
         }
@@ -144,7 +144,7 @@ impl Station {
 /// All strengths of a picture whose data are all there.
 fn derive_all(buffers: &mut Buffers) -> Result<(), Answer> {
     let (mut picture, grids) = buffers.lend();
-    SIZE.places().try_for_each(|at| picture.derive(grids, at, picture.t8s[SIZE.index(at)] == 1).ok())
+    SIZE.places().try_for_each(|at| picture.derive(grids, at).ok())
 }
 
 fn filter_rows(buffers: &mut Buffers) -> Result<(), Answer> {

@@ -135,8 +135,8 @@ fn strengths(show: &dyn Fn(&str, usize), part: Part) {
     let mv0: Vec<i16> = (0..128).collect();
     let grids = Grids { inter: &inter, nnz: &nnz, ref0: &ref0, mv0: &mv0, ref1: &ref1, mv1: &mv0 };
     let mut memory = Memory::new(part);
-    let mut p = memory.lent();
+    let mut p = Picture { t8s: &[1; 4], ..memory.lent() }; // with the flags most is read
     show("strengths by kind", deepest(|| assert!(p.derive_by_kind(grids, LAST, Kind::Inter).is_done())));
     show("strengths by flags", deepest(|| assert!(p.derive_by_flags(grids, LAST, Flags::default()).is_done())));
-    show("strengths", deepest(|| assert!(p.derive(grids, LAST, false).is_done())));
+    show("strengths", deepest(|| assert!(p.derive(grids, LAST).is_done())));
 }

@@ -2,8 +2,8 @@
 
 use super::rows::Rust::{CannotBeLent, Does, DoesInRelease};
 use super::rows::{
-    around_block_0, flagless, frame, kind, row, rows, two, two_lists, visit, whole_chroma, whole_lists, with, Row,
-    ALL_0, EACH_ALONE, INNER_3, NOTHING, NO_FIELDS, NO_VISITS, PANICS,
+    around_block_0, beside, flagless, frame, kind, row, rows, two, two_lists, visit, whole_chroma, whole_lists, with,
+    Row, ALL_0, EACH_ALONE, INNER_3, NOTHING, NO_FIELDS, NO_VISITS, PANICS,
 };
 use super::{edge, inter, intra, original, picture, strengths};
 use crate::request::{Call, Request};
@@ -175,6 +175,13 @@ pub const LENGTHS: &[Row] = &[
         flagless,
         &[|q| q.strengths.resize(31, 0), |q| q.strengths.resize(33, 0)],
         CannotBeLent("it is lent none, and answers 32 by value"),
+    ),
+    row(
+        4,
+        "one 8x8 flag, or three, for the strengths of (1, 0) in 2 by 1",
+        beside,
+        &[|q| q.t8s.resize(1, 0), |q| q.t8s.resize(3, 0)],
+        CannotBeLent("it is lent none, and told of the macroblock's own alone, as a bool"),
     ),
     row(
         5,

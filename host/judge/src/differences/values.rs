@@ -83,6 +83,18 @@ pub const VALUES: &[Row] = &[
     ),
     row(7, "an inter byte 2", flagless, &[|q| q.inter[0] = 2], CannotBeLent("its type is bool, without such a value")),
     row(7, "an 8x8 flag 2", frame, &[|q| q.t8s.resize(1, 2)], CannotBeLent("its type is bool, without such a value")),
+    row(
+        7,
+        "an 8x8 flag 2, of the macroblock whose strengths are asked for or of the one to its left or above it",
+        beside,
+        &[
+            |q| q.t8s = vec![0, 2].into(),
+            |q| q.t8s = vec![2, 0].into(),
+            |q| *q = with(below(), |q| q.t8s = vec![0, 2].into()),
+            |q| *q = with(below(), |q| q.t8s = vec![2, 0].into()),
+        ],
+        CannotBeLent("it is lent none, and told of the macroblock's own alone, as a bool"),
+    ),
     row(7, "a mark 2", visit, &[|q| q.marks[0] = 2], NO_VISITS),
     row(
         8,

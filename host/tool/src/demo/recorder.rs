@@ -70,7 +70,7 @@ fn settings(coded: &[bool], intra: bool, offsets: Offsets) -> Settings {
     let mut strengths = vec![0; 32 * n];
     let mut lent = deblock::Picture { size: SIZE, strengths: &mut strengths, ..Default::default() };
     for place in SIZE.places() {
-        let answer = lent.derive(grids, place, false);
+        let answer = lent.derive(grids, place);
         assert_eq!(answer, Answer::Done, "the recorder's grids are in the domain");
     }
     Settings { part: Part::Frame, offsets, strengths, qps: vec![QP; n], t8s: Vec::new() }

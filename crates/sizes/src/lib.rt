@@ -1,5 +1,5 @@
-// A picture's size, which lines of the planes it has, and the checks of both. Whatever speaks of pictures
-// stands on this crate.
+// A picture's size, which lines of the planes it has, entries of its grids by macroblock, and checks of all
+// three that several calls make. Whatever speaks of pictures stands on this crate.
 ghost use mathlib.Core.Path.{_≡_};
 ghost use Prim.Native.Nat.{_≤_};
 ghost use Rattle.sizes.specs.Sizes.{badSize, badParity, badPlanes};

@@ -141,7 +141,8 @@ fn q_block(at: usize, w: usize, k: usize) -> usize
     at + by_way(k, s, e) * (4 * w) + by_way(k, e, s)
 }
 
-// A block beside byte k's edge has coefficients: p before it or q after it.
+// A block beside byte k's edge has coefficients: p before it or q after it. Of a row it matters whether it is
+// odd, and one up from a row is as one down.
 fn coded_beside(t: Transforms, w: usize, nnz: &[u8], p: usize, q: usize, k: usize) -> bool
     requires { ⌜ InCounts (length (now nnz)) (4 * w) (acrossFlag t k) (pOdd k) p ⌝ }
     requires { ⌜ InCounts (length (now nnz)) (4 * w) (t .own) (qOdd k) q ⌝ }

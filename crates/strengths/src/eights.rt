@@ -28,6 +28,7 @@ fn flag_before(there: bool, t8s: &[u8], i: usize, d: usize) -> bool
     false
 }
 
+// Those of macroblock (x, y).
 pub fn transforms_at(t8s: &[u8], w: usize, x: usize, y: usize) -> Transforms
     requires { ⌜ InPicture w x y 36864 ⌝ }
     requires { ⌜ (eqb (length (now t8s)) 0 ≡ false → InPicture w x y (length (now t8s))) ⌝ }

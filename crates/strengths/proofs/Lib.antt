@@ -4,7 +4,7 @@ pub mod CodedBlocks
 pub mod InterAgrees
 pub mod Before
 pub mod BeforeFlags
-pub mod Beside
+pub mod AcrossFits
 pub mod ByKind
 pub mod Examples
 pub mod EightsExamples

@@ -2,7 +2,8 @@
 -- blocks: docs/RULES.md, "Sizes and layouts" and "What each call reads". They are its own 16, four to the
 -- left where x > 0, four above where y > 0: the blocks beside an edge in ITU-T H.264, clause 8.7.2.1. Counts
 -- are also read of the other blocks of an 8x8 block (`inEight`). In a picture 2 macroblocks wide block 13 is
--- in row 1 and column 5: in macroblock 1, and in the 8x8 block of blocks 4, 5, 12, 13 (proofs/Examples).
+-- in row 1 and column 5: in macroblock 1, and in the 8x8 block of blocks 4, 5, 12, 13
+-- (proofs/EightsExamples).
 use Prim.Native.Nat.{ℕ, _+_, _-_, _*_, _/_, _%_}
 use mathlib.Core.Bool.{Bool, _&&_, _||_}
 use lib.Dec.{ltb}

@@ -1,6 +1,6 @@
 -- Apart: no promise to a caller of the public calls rests on it. How the code goes about coefficients: by the
--- flags of three macroblocks, and by whether a block stands in an odd row, so that it does not divide. That
--- blocks are `coded` so is the laws `p-coded` and `q-coded`.
+-- flags of three macroblocks, and by whether a block stands in an odd row, so that it does not divide. The
+-- laws `p-coded` and `q-coded` say that this is `coded`.
 use Prim.Native.Nat.{ℕ, _+_, _-_, _*_, _%_, _≤_, _<_}
 use mathlib.Core.Path.{_≡_}
 use mathlib.Core.Bool.{Bool, true, cond, _&&_}

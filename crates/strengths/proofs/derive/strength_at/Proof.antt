@@ -9,7 +9,7 @@ use Rattle.motion.proofs.Laws.{hold-less}
 use Rattle.strengths.specs.Strength.{border, skipped}
 use Rattle.strengths.specs.ByKind.{strengthBy}
 use Rattle.strengths.specs.Eights.{acrossFlag}
-use Rattle.strengths.proofs.Beside.{across-fits}
+use Rattle.strengths.proofs.AcrossFits.{across-fits}
 use Rattle.strengths.proofs.CodedBlocks.{p-counts, q-counts}
 use Rattle.strengths.proofs.derive.strength_at.Statement.{statement}
 use Rattle.strengths.proofs.derive.strength_at.Tie as tie

@@ -111,7 +111,8 @@ static inline struct deblock_picture lend_picture(struct buffers *b)
 {
     struct deblock_picture p = DEBLOCK_NONE;
     p.w = W; p.h = H;
-    p.offset_a = 2; p.offset_b = -2; p.offset_chroma = 1;
+    p.offset_a = 2; p.offset_b = -2;
+    p.offset_chroma = 1; p.offset_v_minus_u = -4; /* V's is -3: a High profile stream may send two */
     p.luma = b->planes.luma; p.luma_len = 256 * N;
     p.u = b->planes.u; p.u_len = 64 * N;
     p.v = b->planes.v; p.v_len = 64 * N;

@@ -1,5 +1,6 @@
-/* record FILE QP: writes a recording (crates/recordings/FORMAT.md) from a station's buffers, with this QP in
- * every macroblock. `target/host/release/deblock replay FILE` replays it. */
+/* record FILE QP [V_MINUS_U]: writes a recording (crates/recordings/FORMAT.md) from a station's buffers, with
+ * this QP in every macroblock. The offsets are 0, but V's chroma offset is V_MINUS_U if that is given.
+ * `target/host/release/deblock replay FILE` replays it. */
 #include <stdio.h>
 #include <stdlib.h>
 
@@ -34,8 +35,8 @@ static void put_planes(FILE *file, const uint8_t *before, const struct deblock_p
     put(file, 8, 1); /* bits a sample */
     put(file, 1, 1); /* one frame */
     put(file, (unsigned long)flags, 1);
-    put(file, (unsigned long)p->offset_chroma, 1); /* for U */
-    put(file, (unsigned long)p->offset_chroma, 1); /* for V */
+    put(file, (unsigned long)p->offset_chroma, 1);
+    put(file, (unsigned long)deblock_picture_chroma_v(p), 1);
     put(file, 0, 1);
     fwrite(before, 1, p->luma_len + p->u_len + p->v_len, file);
     fwrite(p->luma, 1, p->luma_len, file);
@@ -43,10 +44,16 @@ static void put_planes(FILE *file, const uint8_t *before, const struct deblock_p
     fwrite(p->v, 1, p->v_len, file);
 }
 
+/* 16 only informs here: where the chroma offsets differ, a reader expects grids with it and without it. */
+static int flags_of(const struct deblock_picture *p, const struct deblock_grids *g)
+{
+    return (g->ref1_len > 0 ? 1 : 0) | (p->t8s_len > 0 ? 2 : 0) | (p->offset_v_minus_u != 0 ? 16 : 0);
+}
+
 static void record(FILE *file, const uint8_t *before, const struct deblock_picture *p,
                    const struct deblock_grids *g)
 {
-    put_planes(file, before, p, (g->ref1_len > 0 ? 1 : 0) | (p->t8s_len > 0 ? 2 : 0));
+    put_planes(file, before, p, flags_of(p, g));
     put(file, (unsigned long)p->offset_a, 1);
     put(file, (unsigned long)p->offset_b, 1);
     put_grid(file, p->qps, p->qps_len);
@@ -77,12 +84,14 @@ static int trouble(const char *what)
 
 int main(int argc, char **argv)
 {
-    if (argc != 3)
-        return trouble("the arguments are FILE and QP");
+    if (argc != 3 && argc != 4)
+        return trouble("the arguments are FILE, QP and, if you like, V_MINUS_U");
     decode();
     memset(qps, atoi(argv[2]), sizeof qps);
     struct deblock_picture p = lend_picture();
     struct deblock_grids g = lend_grids();
+    if (argc == 4)
+        p.offset_v_minus_u = atoi(argv[3]);
     uint8_t before[sizeof planes];
     memcpy(before, planes, sizeof planes);
     uint32_t answer = filter(&p, &g);

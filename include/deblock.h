@@ -45,7 +45,8 @@
  *                                coefficients; reference, -1 where unused, as in intra blocks
  *   mv0                 32 * n   per 4x4 block its vector's x, then y
  *   ref1, mv1           16 * n and 32 * n, or both 0: list 1
- * The offsets a, b and chroma are FilterOffsetA, FilterOffsetB and chroma_qp_index_offset, each -12 to 12.
+ * The offsets are each -12 to 12. a and b are FilterOffsetA and FilterOffsetB, chroma_u is
+ * chroma_qp_index_offset, and chroma_v is second_chroma_qp_index_offset, or chroma_u where a stream has none.
  *
  * Fields. A picture is a frame, or one of a frame's two fields: the top one on the even lines of the frame's
  * planes, counted from 0, the bottom one on the odd lines. Of a field w and h are its own, the planes are its
@@ -65,9 +66,9 @@
 #include <stdint.h>
 
 #define DEBLOCK_VERSION_MAJOR 0
-#define DEBLOCK_VERSION_MINOR 5
+#define DEBLOCK_VERSION_MINOR 6
 #define DEBLOCK_VERSION_PATCH 0
-#define DEBLOCK_VERSION "0.5.0"
+#define DEBLOCK_VERSION "0.6.0"
 
 /* What a call answers. Checks are made in the order of this list, each call making those whose data it takes;
  * the first that applies is the answer. The numbers are not in that order: 19 is asked between 2 and 3. The
@@ -80,7 +81,7 @@ enum deblock_answer {
     DEBLOCK_PLANE_LENGTH = 3,           /* a plane has the wrong length */
     DEBLOCK_MACROBLOCK_GRID_LENGTH = 4, /* strengths, qps, t8s or marks have the wrong length */
     DEBLOCK_BLOCK_GRID_LENGTH = 5,      /* a 4x4 grid has the wrong length, or just one of list 1 is empty */
-    DEBLOCK_BAD_OFFSET = 6,             /* an offset is outside -12..12 */
+    DEBLOCK_BAD_OFFSET = 6,             /* one of the four offsets is outside -12..12 */
     DEBLOCK_NOT_A_BOOL = 7,             /* an inter byte, 8x8 flag or mark that is read is above 1 */
     DEBLOCK_BAD_QP = 8,                 /* a QP that is read is above 51 */
     DEBLOCK_BAD_STRENGTH = 9,           /* a strength that is read is above 4 */
@@ -150,7 +151,8 @@ extern "C" {
 
 /* Filters a whole picture. It neither reads nor sets marks, and called again it filters again.
  * Writes luma, u, v. Answers 0, 1, 19, 3, 4, 6, 7, 8, 9. */
-uint32_t deblock_whole(size_t w, size_t h, uint8_t part, int32_t a, int32_t b, int32_t chroma,
+uint32_t deblock_whole(size_t w, size_t h, uint8_t part,
+                       int32_t a, int32_t b, int32_t chroma_u, int32_t chroma_v,
                        uint8_t *luma, size_t luma_len, uint8_t *u, size_t u_len, uint8_t *v, size_t v_len,
                        const uint8_t *strengths, size_t strengths_len,
                        const uint8_t *qps, size_t qps_len, const uint8_t *t8s, size_t t8s_len);
@@ -161,7 +163,7 @@ uint32_t deblock_whole(size_t w, size_t h, uint8_t part, int32_t a, int32_t b, i
  * to 6 does nothing and answers 0.
  * Writes luma, u, v. Answers 0, 1, 2, 19, 3, 4, 6, 7, 8, 9. */
 uint32_t deblock_rows(size_t w, size_t h, uint8_t part, size_t first, size_t last,
-                      int32_t a, int32_t b, int32_t chroma,
+                      int32_t a, int32_t b, int32_t chroma_u, int32_t chroma_v,
                       uint8_t *luma, size_t luma_len, uint8_t *u, size_t u_len, uint8_t *v, size_t v_len,
                       const uint8_t *strengths, size_t strengths_len,
                       const uint8_t *qps, size_t qps_len, const uint8_t *t8s, size_t t8s_len);
@@ -173,7 +175,7 @@ uint32_t deblock_rows(size_t w, size_t h, uint8_t part, size_t first, size_t las
  * a legal one. It may be shown once it, its right and its lower neighbour, as far as they exist, are marked.
  * Writes luma, u, v, marks. Answers 0, 1, 2, 19, 3, 4, 6, 7, 8, 9, 13, 14. */
 uint32_t deblock_visit(size_t w, size_t h, uint8_t part, size_t x, size_t y,
-                       int32_t a, int32_t b, int32_t chroma,
+                       int32_t a, int32_t b, int32_t chroma_u, int32_t chroma_v,
                        uint8_t *luma, size_t luma_len, uint8_t *u, size_t u_len, uint8_t *v, size_t v_len,
                        const uint8_t *strengths, size_t strengths_len,
                        const uint8_t *qps, size_t qps_len, const uint8_t *t8s, size_t t8s_len,
@@ -269,11 +271,13 @@ uint32_t deblock_y4m_write(size_t w, size_t h, const uint8_t *luma, size_t luma_
 #define DEBLOCK_NONE {0}
 #endif
 
-/* What stays the same throughout a picture, with its marks. */
+/* What stays the same throughout a picture, with its marks. U's chroma offset is offset_chroma, V's is
+ * offset_chroma + offset_v_minus_u. A difference, so that V has U's where it is left 0: in programs written
+ * for 0.5.0, and for streams without second_chroma_qp_index_offset. */
 struct deblock_picture {
     size_t w, h;
     uint8_t part; /* of enum deblock_part; to a strength call all but DEBLOCK_FRAME are a field */
-    int32_t offset_a, offset_b, offset_chroma;
+    int32_t offset_a, offset_b, offset_chroma, offset_v_minus_u;
     uint8_t *luma; size_t luma_len;
     uint8_t *u; size_t u_len;
     uint8_t *v; size_t v_len;
@@ -327,11 +331,20 @@ static inline struct deblock_grids deblock_grids_lent(struct deblock_grids g)
     return g;
 }
 
+/* V's chroma offset. A sum above 13 is 13 here, one below -13 is -13: check 6 refuses these too, and the sum
+ * itself may be none that an int32_t holds. */
+static inline int32_t deblock_picture_chroma_v(const struct deblock_picture *p)
+{
+    const int64_t sum = (int64_t)p->offset_chroma + p->offset_v_minus_u;
+    return sum > 13 ? 13 : sum < -13 ? -13 : (int32_t)sum;
+}
+
 /* Each of these does what the flat call of its name does. */
 static inline uint32_t deblock_picture_whole(const struct deblock_picture *picture)
 {
     const struct deblock_picture p = deblock_picture_lent(*picture);
-    return deblock_whole(p.w, p.h, p.part, p.offset_a, p.offset_b, p.offset_chroma,
+    return deblock_whole(p.w, p.h, p.part,
+                         p.offset_a, p.offset_b, p.offset_chroma, deblock_picture_chroma_v(&p),
                          p.luma, p.luma_len, p.u, p.u_len, p.v, p.v_len,
                          p.strengths, p.strengths_len, p.qps, p.qps_len, p.t8s, p.t8s_len);
 }
@@ -339,7 +352,8 @@ static inline uint32_t deblock_picture_whole(const struct deblock_picture *pictu
 static inline uint32_t deblock_picture_rows(const struct deblock_picture *picture, size_t first, size_t last)
 {
     const struct deblock_picture p = deblock_picture_lent(*picture);
-    return deblock_rows(p.w, p.h, p.part, first, last, p.offset_a, p.offset_b, p.offset_chroma,
+    return deblock_rows(p.w, p.h, p.part, first, last,
+                        p.offset_a, p.offset_b, p.offset_chroma, deblock_picture_chroma_v(&p),
                         p.luma, p.luma_len, p.u, p.u_len, p.v, p.v_len,
                         p.strengths, p.strengths_len, p.qps, p.qps_len, p.t8s, p.t8s_len);
 }
@@ -347,7 +361,8 @@ static inline uint32_t deblock_picture_rows(const struct deblock_picture *pictur
 static inline uint32_t deblock_picture_visit(const struct deblock_picture *picture, size_t x, size_t y)
 {
     const struct deblock_picture p = deblock_picture_lent(*picture);
-    return deblock_visit(p.w, p.h, p.part, x, y, p.offset_a, p.offset_b, p.offset_chroma,
+    return deblock_visit(p.w, p.h, p.part, x, y,
+                         p.offset_a, p.offset_b, p.offset_chroma, deblock_picture_chroma_v(&p),
                          p.luma, p.luma_len, p.u, p.u_len, p.v, p.v_len,
                          p.strengths, p.strengths_len, p.qps, p.qps_len, p.t8s, p.t8s_len,
                          p.marks, p.marks_len);

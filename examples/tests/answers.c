@@ -16,8 +16,8 @@ static void filtering(void)
     expect("QP 52", DEBLOCK_BAD_QP, deblock_picture_whole(&p));
     marks[0] = 2;
     expect("mark 2", DEBLOCK_NOT_A_BOOL, deblock_picture_visit(&p, 0, 0));
-    p.offset_chroma = 13;
-    expect("offset 13", DEBLOCK_BAD_OFFSET, deblock_picture_whole(&p));
+    p.offset_v_minus_u = 13;
+    expect("V's offset 13", DEBLOCK_BAD_OFFSET, deblock_picture_whole(&p));
     p.marks_len--;
     expect("marks cut", DEBLOCK_MACROBLOCK_GRID_LENGTH, deblock_picture_visit(&p, 0, 0));
     p.v_len--;
@@ -31,6 +31,55 @@ static void filtering(void)
     p.w = 257;
     expect("257 wide", DEBLOCK_BAD_SIZE, deblock_picture_whole(&p));
     strengths[0] = 0;
+}
+
+/* Offsets A, B, U's, and V's minus U's, which may have a sum that is no int32_t. */
+struct offsets {
+    const char *what;
+    int32_t a, b, chroma, v_minus_u;
+    uint32_t answer;
+};
+
+static const struct offsets offsets[] = {
+    {"all at 12", 12, 12, 12, 0, DEBLOCK_DONE},
+    {"all at -12", -12, -12, -12, 0, DEBLOCK_DONE},
+    {"U's at 12, V's at -12", 0, 0, 12, -24, DEBLOCK_DONE},
+    {"U's at -12, V's at 12", 0, 0, -12, 24, DEBLOCK_DONE},
+    {"A at 13", 13, 0, 0, 0, DEBLOCK_BAD_OFFSET},
+    {"A at -13", -13, 0, 0, 0, DEBLOCK_BAD_OFFSET},
+    {"B at 13", 0, 13, 0, 0, DEBLOCK_BAD_OFFSET},
+    {"B at -13", 0, -13, 0, 0, DEBLOCK_BAD_OFFSET},
+    {"U's alone at 13", 0, 0, 13, -1, DEBLOCK_BAD_OFFSET},
+    {"U's alone at -13", 0, 0, -13, 1, DEBLOCK_BAD_OFFSET},
+    {"V's alone at 13", 0, 0, 12, 1, DEBLOCK_BAD_OFFSET},
+    {"V's alone at -13", 0, 0, -12, -1, DEBLOCK_BAD_OFFSET},
+    {"V's alone at 14", 0, 0, 0, 14, DEBLOCK_BAD_OFFSET},
+    {"V's alone at -14", 0, 0, 0, -14, DEBLOCK_BAD_OFFSET},
+    {"V's alone above all", 0, 0, 12, INT32_MAX, DEBLOCK_BAD_OFFSET},
+    {"V's alone below all", 0, 0, -12, INT32_MIN, DEBLOCK_BAD_OFFSET},
+    {"U's alone above all", 0, 0, INT32_MAX, -INT32_MAX, DEBLOCK_BAD_OFFSET},
+    {"U's alone below all", 0, 0, INT32_MIN, INT32_MAX, DEBLOCK_BAD_OFFSET},
+    {"both above all", 0, 0, INT32_MAX, INT32_MAX, DEBLOCK_BAD_OFFSET},
+    {"both below all", 0, 0, INT32_MIN, INT32_MIN, DEBLOCK_BAD_OFFSET},
+};
+
+static void filter_with(const struct offsets *o)
+{
+    struct deblock_picture p = lend_picture();
+    decode();
+    p.offset_a = o->a;
+    p.offset_b = o->b;
+    p.offset_chroma = o->chroma;
+    p.offset_v_minus_u = o->v_minus_u;
+    expect(o->what, o->answer, deblock_picture_whole(&p));
+    expect(o->what, o->answer, deblock_picture_rows(&p, 0, 0));
+    expect(o->what, o->answer, deblock_picture_visit(&p, 0, 0));
+}
+
+static void all_offsets(void)
+{
+    for (size_t i = 0; i < sizeof offsets / sizeof *offsets; i++)
+        filter_with(offsets + i);
 }
 
 static void deriving(void)
@@ -127,6 +176,7 @@ int main(void)
     const struct deblock_picture p = lend_picture();
     const struct deblock_grids g = lend_grids();
     filtering();
+    all_offsets();
     deriving();
     kinds(&p, &g);
     flags(&p, &g);

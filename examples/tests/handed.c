@@ -28,10 +28,12 @@ static uint32_t keep(const size_t *arguments, size_t bytes, uint32_t answer)
 #define KEEP(answer, ...) \
     { const size_t all[] = {__VA_ARGS__}; return keep(all, sizeof all, answer); }
 #define FILTERING \
-    int32_t a, int32_t b, int32_t c, uint8_t *y0, size_t yl, uint8_t *u0, size_t ul, uint8_t *v0, size_t vl, \
+    int32_t a, int32_t b, int32_t cu, int32_t cv, \
+    uint8_t *y0, size_t yl, uint8_t *u0, size_t ul, uint8_t *v0, size_t vl, \
     const uint8_t *s, size_t sl, const uint8_t *q, size_t ql, const uint8_t *t, size_t tl
 #define FILTERING_KEPT \
-    (size_t)a, (size_t)b, (size_t)c, at(y0), yl, at(u0), ul, at(v0), vl, at(s), sl, at(q), ql, at(t), tl
+    (size_t)a, (size_t)b, (size_t)cu, (size_t)cv, at(y0), yl, at(u0), ul, at(v0), vl, \
+    at(s), sl, at(q), ql, at(t), tl
 #define DERIVING \
     const uint8_t *t, size_t tl, const uint8_t *i, size_t il, const uint8_t *n, size_t nl, \
     const int8_t *r0, size_t r0l, const int16_t *m0, size_t m0l, \
@@ -66,11 +68,11 @@ static void expect_handed(const char *what, uint32_t answer, uint32_t got, const
         expect_handed(what, answer, call, want); \
     } while (0)
 
-/* Lengths are numbered from 11 on, each 20 below its pointer. */
+/* Lengths are numbered from 11 on, each 20 below its pointer. V's chroma offset is 7 + 3, 10. */
 static struct deblock_picture numbered_lengths(void)
 {
     struct deblock_picture p = DEBLOCK_NONE;
-    p.w = 1, p.h = 2, p.part = 6, p.offset_a = 3, p.offset_b = 4, p.offset_chroma = 5;
+    p.w = 1, p.h = 2, p.part = 6, p.offset_a = 4, p.offset_b = 5, p.offset_chroma = 7, p.offset_v_minus_u = 3;
     p.luma_len = 11, p.u_len = 12, p.v_len = 13, p.strengths_len = 14, p.qps_len = 15, p.t8s_len = 16;
     p.marks_len = 17;
     return p;
@@ -113,15 +115,15 @@ static void all_lent(void)
     const struct deblock_picture p = numbered();
     const struct deblock_grids g = numbered_grids();
     EXPECT("whole", 101, deblock_picture_whole(&p),
-           1, 2, 6, 3, 4, 5, 31, 11, 32, 12, 33, 13, 34, 14, 35, 15, 36, 16);
+           1, 2, 6, 4, 5, 7, 10, 31, 11, 32, 12, 33, 13, 34, 14, 35, 15, 36, 16);
     EXPECT("rows", 102, deblock_picture_rows(&p, 8, 9),
-           1, 2, 6, 8, 9, 3, 4, 5, 31, 11, 32, 12, 33, 13, 34, 14, 35, 15, 36, 16);
+           1, 2, 6, 8, 9, 4, 5, 7, 10, 31, 11, 32, 12, 33, 13, 34, 14, 35, 15, 36, 16);
     EXPECT("visit", 103, deblock_picture_visit(&p, 8, 9),
-           1, 2, 6, 8, 9, 3, 4, 5, 31, 11, 32, 12, 33, 13, 34, 14, 35, 15, 36, 16, 37, 17);
+           1, 2, 6, 8, 9, 4, 5, 7, 10, 31, 11, 32, 12, 33, 13, 34, 14, 35, 15, 36, 16, 37, 17);
     EXPECT("strengths", 104, deblock_picture_strengths(&p, &g, 8, 9),
            1, 2, 1, 8, 9, 36, 16, 41, 21, 42, 22, 43, 23, 44, 24, 45, 25, 46, 26, 34, 14);
-    EXPECT("kind", 106, deblock_picture_strengths_kind(&p, &g, 8, 9, 7),
-           1, 2, 1, 8, 9, 7, 36, 16, 41, 21, 42, 22, 43, 23, 44, 24, 45, 25, 46, 26, 34, 14);
+    EXPECT("kind", 106, deblock_picture_strengths_kind(&p, &g, 8, 9, 18),
+           1, 2, 1, 8, 9, 18, 36, 16, 41, 21, 42, 22, 43, 23, 44, 24, 45, 25, 46, 26, 34, 14);
     EXPECT("flat", 105, deblock_picture_strengths_flags(&p, &g, 8, 9, DEBLOCK_FLAT),
            1, 2, 1, 8, 9, 1, 0, 36, 16, 41, 21, 42, 22, 43, 23, 44, 24, 45, 25, 46, 26, 34, 14);
     EXPECT("uniform", 105, deblock_picture_strengths_flags(&p, &g, 8, 9, DEBLOCK_UNIFORM),
@@ -137,9 +139,9 @@ static void parts(void)
     static const struct deblock_grids g = DEBLOCK_NONE;
     for (p.part = DEBLOCK_FRAME; p.part <= DEBLOCK_BOTTOM_FIELD; p.part++) {
         const size_t field = p.part != DEBLOCK_FRAME;
-        EXPECT("a part", 101, deblock_picture_whole(&p), 1, 2, p.part, 3, 4, 5);
+        EXPECT("a part", 101, deblock_picture_whole(&p), 1, 2, p.part, 4, 5, 7, 10);
         EXPECT("field", 104, deblock_picture_strengths(&p, &g, 8, 9), 1, 2, field, 8, 9);
-        EXPECT("field by kind", 106, deblock_picture_strengths_kind(&p, &g, 8, 9, 7), 1, 2, field, 8, 9, 7);
+        EXPECT("field by kind", 106, deblock_picture_strengths_kind(&p, &g, 8, 9, 18), 1, 2, field, 8, 9, 18);
         EXPECT("field by flags", 105, deblock_picture_strengths_flags(&p, &g, 8, 9, 0), 1, 2, field, 8, 9);
     }
 }
@@ -150,7 +152,7 @@ static void all_null(void)
     static const struct deblock_grids none = DEBLOCK_NONE;
     const struct deblock_picture p = numbered_lengths();
     const struct deblock_grids g = numbered_grid_lengths();
-    EXPECT("null members", 103, deblock_picture_visit(&p, 8, 9), 1, 2, 6, 8, 9, 3, 4, 5);
+    EXPECT("null members", 103, deblock_picture_visit(&p, 8, 9), 1, 2, 6, 8, 9, 4, 5, 7, 10);
     EXPECT("null grids", 104, deblock_picture_strengths(&p, &g, 8, 9), 1, 2, 1, 8, 9);
     EXPECT("no grids", 104, deblock_picture_strengths(&p, &none, 8, 9), 1, 2, 1, 8, 9);
 }
@@ -161,7 +163,7 @@ static void null_with_a_length(void)
     struct deblock_picture p = numbered();
     struct deblock_grids g = numbered_grids();
     p.t8s = NULL;
-    EXPECT("t8s", 101, deblock_picture_whole(&p), 1, 2, 6, 3, 4, 5, 31, 11, 32, 12, 33, 13, 0, 0, 35, 15);
+    EXPECT("t8s", 101, deblock_picture_whole(&p), 1, 2, 6, 4, 5, 7, 10, 31, 11, 32, 12, 33, 13, 0, 0, 35, 15);
     EXPECT("t8s", 104, deblock_picture_strengths(&p, &g, 8, 9),
            1, 2, 1, 8, 9, 0, 0, 41, 21, 42, 22, 43, 23, 44, 24, 45, 25, 46, 26);
     p = numbered();
@@ -174,9 +176,36 @@ static void null_with_a_length(void)
            1, 2, 1, 8, 9, 36, 16, 0, 0, 42, 22, 43, 23, 44, 24, 45, 25, 0, 0, 34, 14);
 }
 
+/* What comes to V's chroma offset: a sum that every int32_t may be part of. Those below -13 and above 13 go
+ * on as these. */
+struct sum { int32_t chroma, v_minus_u, chroma_v; };
+
+static const struct sum sums[] = {
+    {0, 0, 0}, {12, -24, -12}, {-12, 24, 12}, {-2, 11, 9}, {9, -11, -2},
+    {12, 1, 13}, {-12, -1, -13}, {12, 2, 13}, {-12, -2, -13}, {13, -1, 12}, {-13, 1, -12},
+    {0, INT32_MAX, 13}, {0, INT32_MIN, -13}, {INT32_MAX, 0, 13}, {INT32_MIN, 0, -13},
+    {1, INT32_MAX, 13}, {-1, INT32_MIN, -13}, {INT32_MAX, 1, 13}, {INT32_MIN, -1, -13},
+    {INT32_MAX, INT32_MAX, 13}, {INT32_MIN, INT32_MIN, -13},
+    {INT32_MAX, INT32_MIN, -1}, {INT32_MIN, INT32_MAX, -1},
+};
+
+static void all_sums(void)
+{
+    struct deblock_picture p = DEBLOCK_NONE;
+    for (size_t i = 0; i < sizeof sums / sizeof *sums; i++) {
+        const size_t chroma_u = (size_t)sums[i].chroma, chroma_v = (size_t)sums[i].chroma_v;
+        p.offset_chroma = sums[i].chroma;
+        p.offset_v_minus_u = sums[i].v_minus_u;
+        EXPECT("sum, whole", 101, deblock_picture_whole(&p), 0, 0, 0, 0, 0, chroma_u, chroma_v);
+        EXPECT("sum, rows", 102, deblock_picture_rows(&p, 8, 9), 0, 0, 0, 8, 9, 0, 0, chroma_u, chroma_v);
+        EXPECT("sum, visit", 103, deblock_picture_visit(&p, 8, 9), 0, 0, 0, 8, 9, 0, 0, chroma_u, chroma_v);
+    }
+}
+
 int main(void)
 {
     all_lent();
+    all_sums();
     parts();
     all_null();
     null_with_a_length();

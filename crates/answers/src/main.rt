@@ -195,7 +195,8 @@ fn main() {
         Offsets {
             a: 0,
             b: 0,
-            chroma: 0,
+            chroma_u: 0,
+            chroma_v: 0,
         },
         &s,
     );
@@ -205,7 +206,8 @@ fn main() {
         Offsets {
             a: 6,
             b: -4,
-            chroma: 2,
+            chroma_u: 2,
+            chroma_v: 2,
         },
         &s,
     );
@@ -215,7 +217,8 @@ fn main() {
         Offsets {
             a: 0,
             b: 0,
-            chroma: 0,
+            chroma_u: 0,
+            chroma_v: 0,
         },
         &s,
     );

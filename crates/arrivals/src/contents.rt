@@ -124,19 +124,22 @@ pub fn offsets_of(picture: u8) -> Offsets {
         return Offsets {
             a: 0,
             b: 0,
-            chroma: 0,
+            chroma_u: 0,
+            chroma_v: 0,
         };
     }
     if picture == 1 {
         return Offsets {
             a: 2,
             b: -3,
-            chroma: 1,
+            chroma_u: 1,
+            chroma_v: 1,
         };
     }
     Offsets {
         a: -1,
         b: 4,
-        chroma: -2,
+        chroma_u: -2,
+        chroma_v: -2,
     }
 }

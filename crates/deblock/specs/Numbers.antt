@@ -23,9 +23,9 @@ sizeOf w h = record { w = w; h = h }
 abbrev pub partNumber : ℕ → Part
 partNumber k = cond (eqb k 0) Frame (Field (k - 1))
 
--- the three offsets
-abbrev pub offsets : ℤ → ℤ → ℤ → Offsets
-offsets a b c = record { a = a; b = b; chroma = c }
+-- the four offsets
+abbrev pub offsets : ℤ → ℤ → ℤ → ℤ → Offsets
+offsets a b u v = record { a = a; b = b; «chroma_u» = u; «chroma_v» = v }
 
 -- a flag is set by any number but 0
 abbrev pub isSet : ℕ → Bool

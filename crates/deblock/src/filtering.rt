@@ -28,7 +28,8 @@ pub extern "C" fn deblock_whole(
     part: u8,
     a: i32,
     b: i32,
-    chroma: i32,
+    chroma_u: i32,
+    chroma_v: i32,
     luma: &mut [u8],
     u: &mut [u8],
     v: &mut [u8],
@@ -36,11 +37,16 @@ pub extern "C" fn deblock_whole(
     qps: &[u8],
     t8s: &[u8],
 ) -> u32
-    ensures { λ n. ⌜ WholeOutcome (partNumber part) (lent (sizeOf w h) (offsets a b chroma) (now (strengths .entry)) (now (qps .entry)) (now (t8s .entry))) (planes (now (luma .entry)) (now (u .entry)) (now (v .entry))) n (planes (now (luma .exit)) (now (u .exit)) (now (v .exit))) ⌝ }
+    ensures { λ n. ⌜ WholeOutcome (partNumber part) (lent (sizeOf w h) (offsets a b «chroma_u» «chroma_v») (now (strengths .entry)) (now (qps .entry)) (now (t8s .entry))) (planes (now (luma .entry)) (now (u .entry)) (now (v .entry))) n (planes (now (luma .exit)) (now (u .exit)) (now (v .exit))) ⌝ }
 {
     let size = Size { w, h };
     let part = part_of_number(part);
-    let o = Offsets { a, b, chroma };
+    let o = Offsets {
+        a,
+        b,
+        chroma_u,
+        chroma_v,
+    };
     filter_whole(size, part, o, luma, u, v, strengths, qps, t8s)
 }
 
@@ -54,7 +60,8 @@ pub extern "C" fn deblock_rows(
     last: usize,
     a: i32,
     b: i32,
-    chroma: i32,
+    chroma_u: i32,
+    chroma_v: i32,
     luma: &mut [u8],
     u: &mut [u8],
     v: &mut [u8],
@@ -62,10 +69,15 @@ pub extern "C" fn deblock_rows(
     qps: &[u8],
     t8s: &[u8],
 ) -> u32
-    ensures { λ n. ⌜ RowOutcome (partNumber part) (lent (sizeOf w h) (offsets a b chroma) (now (strengths .entry)) (now (qps .entry)) (now (t8s .entry))) first last (planes (now (luma .entry)) (now (u .entry)) (now (v .entry))) n (planes (now (luma .exit)) (now (u .exit)) (now (v .exit))) ⌝ }
+    ensures { λ n. ⌜ RowOutcome (partNumber part) (lent (sizeOf w h) (offsets a b «chroma_u» «chroma_v») (now (strengths .entry)) (now (qps .entry)) (now (t8s .entry))) first last (planes (now (luma .entry)) (now (u .entry)) (now (v .entry))) n (planes (now (luma .exit)) (now (u .exit)) (now (v .exit))) ⌝ }
 {
     let size = Size { w, h };
     let part = part_of_number(part);
-    let o = Offsets { a, b, chroma };
+    let o = Offsets {
+        a,
+        b,
+        chroma_u,
+        chroma_v,
+    };
     filter_rows(size, part, first, last, o, luma, u, v, strengths, qps, t8s)
 }

@@ -18,7 +18,8 @@ pub extern "C" fn deblock_visit(
     y: usize,
     a: i32,
     b: i32,
-    chroma: i32,
+    chroma_u: i32,
+    chroma_v: i32,
     luma: &mut [u8],
     u: &mut [u8],
     v: &mut [u8],
@@ -27,10 +28,15 @@ pub extern "C" fn deblock_visit(
     t8s: &[u8],
     marks: &mut [u8],
 ) -> u32
-    ensures { λ n. ⌜ VisitOutcome (partNumber part) (lent (sizeOf w h) (offsets a b chroma) (now (strengths .entry)) (now (qps .entry)) (now (t8s .entry))) (planes (now (luma .entry)) (now (u .entry)) (now (v .entry)), now (marks .entry)) (x, y) n (planes (now (luma .exit)) (now (u .exit)) (now (v .exit)), now (marks .exit)) ⌝ }
+    ensures { λ n. ⌜ VisitOutcome (partNumber part) (lent (sizeOf w h) (offsets a b «chroma_u» «chroma_v») (now (strengths .entry)) (now (qps .entry)) (now (t8s .entry))) (planes (now (luma .entry)) (now (u .entry)) (now (v .entry)), now (marks .entry)) (x, y) n (planes (now (luma .exit)) (now (u .exit)) (now (v .exit)), now (marks .exit)) ⌝ }
 {
     let size = Size { w, h };
     let part = part_of_number(part);
-    let o = Offsets { a, b, chroma };
+    let o = Offsets {
+        a,
+        b,
+        chroma_u,
+        chroma_v,
+    };
     visit(size, part, x, y, o, luma, u, v, strengths, qps, t8s, marks)
 }

@@ -27,7 +27,7 @@ module _ (w : ℕ) (strengths : ℕ → ℕ) (qps t8s : List ℕ) (o : Offsets) 
       }
   plain-settings x y = refl
 
-  pub plain-offsets : (heldBy w strengths qps t8s o .u ≡ o .chroma) × (heldBy w strengths qps t8s o .v ≡ o .chroma)
+  pub plain-offsets : (heldBy w strengths qps t8s o .u ≡ o .«chroma_u») × (heldBy w strengths qps t8s o .v ≡ o .«chroma_v»)
   plain-offsets = (refl, refl)
 
 pub plain-luma : (border t8 : Bool) (e : ℕ) → lumaOn border true t8 e ≡ outerOr border (cond (eqb (e % 2) 0) true (not t8)) e

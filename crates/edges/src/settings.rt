@@ -69,7 +69,7 @@ fn qp_before(qps: &[u8], there: bool, i: usize, d: usize) -> i16
 fn levels_at(t: &[u8; 282], w: usize, x: usize, row: usize, qps: &[u8], o: Offsets) -> Levels
     requires { ⌜ now t ≡ tables ⌝ }
     requires { ⌜ (x < w) × (row * w + w ≤ length (now qps)) ⌝ }
-    ensures { λ r. ⌜ r ≡ levelsOf eight (pos (entries (now (qps .entry)) (row * w + x))) (pos (entries (now (qps .entry)) (beforeOf (ltb 0 x) (row * w + x) 1))) (pos (entries (now (qps .entry)) (beforeOf (ltb 0 row) (row * w + x) w))) (o .a) (o .b) (o .chroma) (o .chroma) ⌝ }
+    ensures { λ r. ⌜ r ≡ levelsOf eight (pos (entries (now (qps .entry)) (row * w + x))) (pos (entries (now (qps .entry)) (beforeOf (ltb 0 x) (row * w + x) 1))) (pos (entries (now (qps .entry)) (beforeOf (ltb 0 row) (row * w + x) w))) (o .a) (o .b) (o .«chroma_u») (o .«chroma_v») ⌝ }
 {
     let i = row * w + x;
     let qp = qp_of(qps[i]);

@@ -1,8 +1,8 @@
 -- Worked examples: the answers to requests to both fields, of one macroblock each. Assumes nothing.
 use mathlib.Core.Path.{_≡_, refl}
 use mathlib.Core.List.{[], _∷_, replicate}
-use lib.IntN.{pos}
 use Rattle.edges.specs.Picture.{planes}
+use Rattle.edges.specs.Cases.{noOffsets}
 use Rattle.sizes.specs.declared.Size.{Size}
 use Rattle.visits.specs.Checks.{earlyIn}
 use Rattle.visits.specs.Visit.{answer, visit, answers}
@@ -12,7 +12,7 @@ abbrev one : Size
 one = record { w = 1; h = 1 }
 
 abbrev stillField : OfField
-stillField = ofField (record { a = pos 0; b = pos 0; chroma = pos 0 }) (replicate 32 0) (30 ∷ []) []
+stillField = ofField noOffsets (replicate 32 0) (30 ∷ []) []
 
 -- with no planes: a parity of 2; the right parity, and 3; outside the picture, with a right parity and a
 -- wrong one

@@ -1,10 +1,11 @@
 -- Signed machine numbers. A `Num w` is a number of the code at the width w: the bits that its local holds,
 -- the integer that they are, and a size that the integer is at most away from 0. There is one for each
--- operation, made of the operands' and of a test on sizes that antt computes (`tt`): byte, nat, lit
--- an unsigned number that was cast, a literal int, returned, cast               a signed parameter, a call's
--- result, either of them cast add, sub, mul, neg, shr           what an operation makes add-ok, sub-ok,
--- mul-ok, neg-ok, cast-ok    what the operation's need asks: the result fits All are `abbrev`, so that the
--- bits compute to those of the goal. Assumes nothing.
+-- operation, made of the operands' and of a test on sizes that antt computes (`tt`):
+--   byte, nat, lit: an unsigned number that was cast; a literal
+--   int, returned, cast: a signed parameter; a call's result; either of them cast
+--   add, sub, mul, neg, shr: what an operation makes
+--   add-ok, sub-ok, mul-ok, neg-ok, cast-ok: what the operation's need asks, that the result fits
+-- All are `abbrev`, so that the bits compute to those of the goal. Assumes nothing.
 use mathlib.Core.Path.{_≡_, ap, subst, _∙_}
 use Prim.Native.Nat.{ℕ, _+_, _*_, _^_, _≤_, _<_}
 use native.Mathlib.Nat.{le-refl, le-trans, lt-of-le-of-lt, mul-le-mul}

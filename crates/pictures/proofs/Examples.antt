@@ -5,18 +5,19 @@ use native.Mathlib.Omega.{arith}
 use borrow.Author.Tests.{le-ltb}
 use mathlib.Core.List.{[], _∷_, replicate}
 use Prim.Native.Nat.{ℕ}
-use lib.IntN.{pos, negℤ}
+use lib.IntN.{ℤ, pos, negsuc, negℤ}
 use lib.Signed.{ltZ}
 use Rattle.lines.specs.Depth.{eight}
 use Rattle.laws.specs.Some.{some}
 use Rattle.edges.specs.Picture.{Planes, planes}
+use Rattle.edges.specs.Cases.{noOffsets}
 use Rattle.sizes.specs.declared.Part.the-variants.{Frame, Field}
 use Rattle.pictures.specs.Checks.{Lent, lent, badQp, someBad}
 use Rattle.pictures.specs.Rows.{rowAnswer}
 
 -- its strengths and its QP
 abbrev pub greyLent : ℕ → ℕ → Lent
-greyLent bs qp = lent (record { w = 1; h = 1 }) (record { a = pos 0; b = pos 0; chroma = pos 0 }) (replicate 32 bs) (qp ∷ []) []
+greyLent bs qp = lent (record { w = 1; h = 1 }) noOffsets (replicate 32 bs) (qp ∷ []) []
 
 abbrev pub grey : Planes
 grey = planes (replicate 256 128) (replicate 64 128) (replicate 64 128)
@@ -34,6 +35,19 @@ grey-refused : (rowAnswer Frame (greyLent 0 30) 0 2 grey ≡ 2)
     × (rowAnswer Frame (greyLent 5 30) 0 1 grey ≡ 9)
 unfolding rowAnswer someBad some
 grey-refused = (refl, refl, refl, refl, refl)
+
+-- ---- check 6 asks four offsets: all may be 12 or -12; 13 in A, B, U's, V's; -13 in V's
+abbrev pub greyWith : ℤ → ℤ → ℤ → ℤ → Lent
+greyWith a b u v = lent (record { w = 1; h = 1 }) (record { a = a; b = b; «chroma_u» = u; «chroma_v» = v }) (replicate 32 0) (30 ∷ []) []
+
+grey-offsets : (rowAnswer Frame (greyWith (negsuc 11) (pos 12) (pos 12) (negsuc 11)) 0 1 grey ≡ 0)
+    × (rowAnswer Frame (greyWith (pos 13) (pos 0) (pos 0) (pos 0)) 0 1 grey ≡ 6)
+    × (rowAnswer Frame (greyWith (pos 0) (pos 13) (pos 0) (pos 0)) 0 1 grey ≡ 6)
+    × (rowAnswer Frame (greyWith (pos 0) (pos 0) (pos 13) (pos 0)) 0 1 grey ≡ 6)
+    × (rowAnswer Frame (greyWith (pos 0) (pos 0) (pos 0) (pos 13)) 0 1 grey ≡ 6)
+    × (rowAnswer Frame (greyWith (pos 0) (pos 0) (pos 0) (negsuc 12)) 0 1 grey ≡ 6)
+unfolding rowAnswer someBad some
+grey-offsets = (refl, refl, refl, refl, refl, refl)
 
 -- ---- a field of one macroblock: the planes are those of a frame of two. A parity of 2 is refused after the
 -- range and before the planes

@@ -1,5 +1,6 @@
 pub mod Before
 pub mod EmptyRange
+pub mod EqualOffsets
 pub mod Examples
 pub mod Fitting
 pub mod FromGrids

@@ -6,6 +6,7 @@ use mathlib.Core.Bool.{Bool, true, false, cond}
 use Prim.Native.Nat.{ℕ, _<_}
 use native.Mathlib.Omega.{arith}
 use lib.Dec.{eqb}
+use lib.IntN.{pos}
 use Rattle.laws.specs.Some.{some}
 use Rattle.edges.specs.Fields.{takenOut, onPart}
 use Rattle.edges.specs.Picture.{Planes, rowsOf}
@@ -13,7 +14,7 @@ use Rattle.edges.proofs.OnPart.{other-field}
 use Rattle.sizes.specs.declared.Part.the-variants.{Frame, Field}
 use Rattle.pictures.specs.Checks.{Lent, heldOf, someBad}
 use Rattle.pictures.specs.Rows.{rowAnswer, RowOutcome, WholeOutcome}
-use Rattle.pictures.proofs.Examples.{greyLent, grey, grey-served}
+use Rattle.pictures.proofs.Examples.{greyLent, greyWith, grey, grey-served}
 
 -- a filtering call that always refuses
 pub rows-always-refuse : (n : ℕ) (p : Planes) → (n ≡ 0 → ⊥) → RowOutcome Frame (greyLent 0 30) 0 1 grey n p → ⊥
@@ -32,6 +33,11 @@ field-of-single-lengths p r = let k : _≡_ {A = ℕ} 0 3 = r .says in omega ari
 pub whole-from-row-1 : (p : Planes) → WholeOutcome Frame (greyLent 0 52) grey (rowAnswer Frame (greyLent 0 52) 1 1 grey) p → ⊥
 unfolding rowAnswer someBad some
 whole-from-row-1 p r = let k : _≡_ {A = ℕ} 0 8 = r .says in omega arith
+
+-- V's chroma offset not asked: 13 would be served
+pub second-offset-unasked : (p : Planes) → RowOutcome Frame (greyWith (pos 0) (pos 0) (pos 0) (pos 13)) 0 1 grey 0 p → ⊥
+unfolding rowAnswer someBad some
+second-offset-unasked p r = let k : _≡_ {A = ℕ} 0 6 = r .says in omega arith
 
 -- a call on a field that touches a line of the other: q is the other's parity
 pub rows-touch-other : (p q : ℕ) → p < 2 → q < 2 → q ≢ p → (d : Lent) (a b n : ℕ) (s s′ : Planes) → 0 < d .size .w → takenOut (d .size) q s′ ≢ takenOut (d .size) q s

@@ -40,7 +40,7 @@ abbrev pub badOffset : ℤ → Bool
 badOffset o = ltZ o (negsuc 11) || ltZ (pos 12) o
 
 abbrev pub badOffsets : Offsets → Bool
-badOffsets o = badOffset (o .a) || badOffset (o .b) || badOffset (o .chroma)
+badOffsets o = badOffset (o .a) || badOffset (o .b) || badOffset (o .«chroma_u») || badOffset (o .«chroma_v»)
 
 -- 8, 9: values that are no QP, no strength; 7 is `badFlag`. QPs are lent as bytes, and at eight bits the
 -- lowest is 0: none is too low

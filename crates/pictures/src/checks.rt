@@ -6,7 +6,7 @@ ghost use lib.Dec.{eqb, ltb};
 ghost use lib.ListN.{length};
 ghost use Rattle.laws.specs.Refusal.{refusal};
 ghost use Rattle.sizes.specs.Sizes.{frameOfPart};
-ghost use Rattle.pictures.specs.Checks.{badLent, badOffsets, someBad, someBadFlag, someBadStrength, pictureChecks, gridChecks};
+ghost use Rattle.pictures.specs.Checks.{badLent, badOffset, badOffsets, someBad, someBadFlag, someBadStrength, pictureChecks, gridChecks};
 use edges::Offsets;
 use sizes::Part;
 use sizes::Size;
@@ -34,14 +34,18 @@ fn bad_lent(n: usize, strengths: usize, qps: usize, t8s: usize) -> bool
     (strengths != 32 * n) | (qps != n) | bad_flag_count(n, t8s)
 }
 
-// Check 6.
+// Check 6, of one offset.
+fn bad_offset(x: i32) -> bool
+    ensures { λ r. ⌜ r ≡ badOffset x ⌝ }
+{
+    (x < -12) | (12 < x)
+}
+
+// .. of all.
 fn bad_offsets(o: Offsets) -> bool
     ensures { λ r. ⌜ r ≡ badOffsets o ⌝ }
 {
-    let a = o.a;
-    let b = o.b;
-    let c = o.chroma;
-    ((a < -12) | (12 < a)) | ((b < -12) | (12 < b)) | ((c < -12) | (12 < c))
+    bad_offset(o.a) | bad_offset(o.b) | bad_offset(o.chroma_u) | bad_offset(o.chroma_v)
 }
 
 // Checks 1, 2, 19 and 3. `outside`: check 2 applies.

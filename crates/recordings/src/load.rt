@@ -22,7 +22,7 @@ pub fn three(fd: i32, a: &mut [u8], b: &mut [u8], c: &mut [u8]) -> bool {
 }
 
 // What a header says: the size and the number of macroblocks of a picture, whether there are two pictures,
-// list 1 and an 8x8 grid, whether the strengths are free of grids, the chroma offset.
+// list 1 and an 8x8 grid, whether the strengths are free of grids, the chroma offsets.
 pub struct Head {
     pub size: Size,
     pub n: usize,
@@ -30,7 +30,8 @@ pub struct Head {
     pub lists: bool,
     pub t8: bool,
     pub free: bool,
-    pub chroma: i32,
+    pub chroma_u: i32,
+    pub chroma_v: i32,
 }
 
 // What was read of a picture's grids and strengths: whether it was all there, and whether the strengths
@@ -84,7 +85,8 @@ pub fn load(fd: i32, head: Head, q: &mut [u8], t: &mut [u8], s: &mut [u8]) -> Lo
     let o = Offsets {
         a: offset(ab[0]),
         b: offset(ab[1]),
-        chroma: head.chroma,
+        chroma_u: head.chroma_u,
+        chroma_v: head.chroma_v,
     };
     Loaded {
         good: first & last.good,
@@ -101,7 +103,8 @@ pub fn load_second(fd: i32, head: Head, q: &mut [u8], t: &mut [u8], s: &mut [u8]
     let o = Offsets {
         a: 0,
         b: 0,
-        chroma: 0,
+        chroma_u: 0,
+        chroma_v: 0,
     };
     Loaded {
         good: true,

@@ -149,13 +149,13 @@ fn in_space(fd: i32, head: Head) -> bool
     replay(fd, head, luma, u, v, ay, au, av, s, q, t, s2, q2, t2)
 }
 
-// A header of eight bits, a frame or two fields, with one chroma offset, no slices and no reference tables.
+// A header of eight bits, a frame or two fields, no slices and no reference tables.
 fn known(head: &[u8; 14]) -> bool {
     let magic = (head[0] == b'D') & (head[1] == b'B') & (head[2] == b'V') & (head[3] == b'1');
     let small = (head[5] == 0) & (head[7] == 0);
     let pictures = (head[8] == 8) & ((head[9] == 1) | (head[9] == 2));
     let flags = (head[10] / 4 % 4 == 0) & (head[10] < 32);
-    magic & small & pictures & flags & (head[11] == head[12]) & (head[13] == 0)
+    magic & small & pictures & flags & (head[13] == 0)
 }
 
 fn has(flags: u8, bit: u8) -> bool {
@@ -207,8 +207,9 @@ fn recording(fd: i32, name: &[u8]) -> bool {
             two,
             lists: has(head[10], 1),
             t8: has(head[10], 2),
-            free: has(head[10], 16),
-            chroma: load::offset(head[11]),
+            free: has(head[10], 16) & (head[11] == head[12]),
+            chroma_u: load::offset(head[11]),
+            chroma_v: load::offset(head[12]),
         },
     )
 }

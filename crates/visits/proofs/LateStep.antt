@@ -127,8 +127,8 @@ module _ (d : Lent) (ss qs ts : List ℕ) (r : At) (a : SameLent d (regridded d 
   unfolding macroblockAt
   macroblock-same p = λ i. record {
     luma = luma-same (p .luma) i;
-    u = chroma-same (d .offsets .chroma) (p .u) i;
-    v = chroma-same (d .offsets .chroma) (p .v) i;
+    u = chroma-same (d .offsets .«chroma_u») (p .u) i;
+    v = chroma-same (d .offsets .«chroma_v») (p .v) i;
   }
 
   pub step-same : r .0 < d .size .w → (p : Planes) → stepOf (heldOf d) (ofRequest d r) p ≡ stepOf (heldOf e) (ofRequest d r) p

@@ -8,6 +8,7 @@ pub mod Clauses
 pub mod Commute
 pub mod Demand3
 pub mod Earliest
+pub mod EqualOffsets
 pub mod Fault
 pub mod Instance
 pub mod Late

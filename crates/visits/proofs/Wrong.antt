@@ -5,7 +5,6 @@ use mathlib.Core.Logic.{_≢_}
 use mathlib.Core.List.{List, [], _∷_, _++_}
 use Prim.Native.Nat.{ℕ, _*_, _<_}
 use native.Mathlib.Omega.{arith}
-use lib.IntN.{pos}
 use lib.ListN.{length, getD, replicate, length-replicate}
 use lib.Dec.{T}
 use Rattle.laws.specs.Clip.{clip3, clip1}
@@ -21,6 +20,7 @@ use Rattle.lines.specs.Planes.{lumaAt}
 use Rattle.edges.specs.Edge.{lumaRule, lumaEdge}
 use Rattle.edges.specs.Macroblock.{lumaWay, lumaBoth}
 use Rattle.edges.specs.Picture.{Planes, planes, lumaOf, macroblockAt, stepOf}
+use Rattle.edges.specs.Cases.{noOffsets}
 use Rattle.sizes.specs.Entries.{flagAt}
 use Rattle.visits.specs.Visit.{At, State, fresh, answer, itself}
 use Rattle.visits.specs.AnyOrder.{Demand3}
@@ -46,7 +46,7 @@ visit-always-refuses d v w h start f =
 
 -- ---- two macroblocks side by side, the upper row of Fault.antt
 abbrev pub pairLent : Lent
-pairLent = lent (record { w = 2; h = 1 }) (record { a = pos 0; b = pos 0; chroma = pos 0 }) (outerStrengths 0 0 ++ outerStrengths 1 0) (40 ∷ 40 ∷ []) []
+pairLent = lent (record { w = 2; h = 1 }) noOffsets (outerStrengths 0 0 ++ outerStrengths 1 0) (40 ∷ 40 ∷ []) []
 
 abbrev pub pairPlanes : Planes
 pairPlanes = planes (band 16 16 100 16 103) (replicate 128 128) (replicate 128 128)
@@ -104,7 +104,7 @@ abbrev oneStrengths : List ℕ
 oneStrengths = replicate 4 0 ++ replicate 4 1 ++ replicate 24 0
 
 abbrev pub oneLent : Lent
-oneLent = lent (record { w = 1; h = 1 }) (record { a = pos 0; b = pos 0; chroma = pos 0 }) oneStrengths (40 ∷ []) []
+oneLent = lent (record { w = 1; h = 1 }) noOffsets oneStrengths (40 ∷ []) []
 
 abbrev pub onePlanes : Planes
 onePlanes = planes (band 16 4 100 12 103) (replicate 64 128) (replicate 64 128)

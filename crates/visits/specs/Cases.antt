@@ -2,12 +2,12 @@
 -- checks, on the picture of Fault.antt and on its left column; and all twelve cases, joined.
 use Prim.Native.Nat.{ℕ}
 use mathlib.Core.List.{List, [], _∷_, _++_}
-use lib.IntN.{pos}
 use lib.ListN.{replicate}
 use Rattle.laws.specs.Cases.{Case}
 use Rattle.lines.specs.Cases as lines
 use Rattle.motion.specs.Cases as motion
 use Rattle.edges.specs.Picture.{Planes, planes}
+use Rattle.edges.specs.Cases.{noOffsets}
 use Rattle.pictures.specs.Checks.{Lent, lent}
 use Rattle.visits.specs.Fault.{band, outerStrengths, faultLuma, faultLent}
 use Rattle.visits.specs.Promise.{visitOf, unvisited}
@@ -20,7 +20,7 @@ squarePlanes = planes faultLuma (replicate 256 128) (replicate 256 128)
 -- 1 by 2
 abbrev pub columnLent : Lent
 columnLent =
-    lent (record { w = 1; h = 2 }) (record { a = pos 0; b = pos 0; chroma = pos 0 }) (outerStrengths 0 0 ++ outerStrengths 0 1) (40 ∷ 40 ∷ []) []
+    lent (record { w = 1; h = 2 }) noOffsets (outerStrengths 0 0 ++ outerStrengths 0 1) (40 ∷ 40 ∷ []) []
 
 abbrev pub columnPlanes : Planes
 columnPlanes = planes (band 16 16 100 0 0 ++ band 16 16 105 0 0) (replicate 128 128) (replicate 128 128)

@@ -3,10 +3,10 @@
 -- is this picture.
 use Prim.Native.Nat.{ℕ, zero, suc}
 use mathlib.Core.List.{List, [], _∷_, _++_}
-use lib.IntN.{pos}
 use lib.ListN.{replicate}
 use Rattle.laws.specs.Places.{Plane}
 use Rattle.edges.specs.Picture.{Held}
+use Rattle.edges.specs.Cases.{noOffsets}
 use Rattle.pictures.specs.Checks.{Lent, lent, heldOf}
 
 -- n lines, each of m samples a and k samples b
@@ -26,7 +26,7 @@ faultStrengths = outerStrengths 0 0 ++ outerStrengths 1 0 ++ outerStrengths 0 1 
 
 abbrev pub faultLent : Lent
 faultLent =
-    lent (record { w = 2; h = 2 }) (record { a = pos 0; b = pos 0; chroma = pos 0 }) faultStrengths (40 ∷ 40 ∷ 40 ∷ 40 ∷ []) []
+    lent (record { w = 2; h = 2 }) noOffsets faultStrengths (40 ∷ 40 ∷ 40 ∷ 40 ∷ []) []
 
 abbrev pub faultHeld : Held
 faultHeld = heldOf faultLent

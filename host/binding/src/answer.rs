@@ -28,7 +28,7 @@ pub enum Answer {
     MacroblockGridLength = 4,
     /// One of the `Grids` has the wrong length, or just one of `ref1` and `mv1` is empty.
     BlockGridLength = 5,
-    /// `a`, `b` or `chroma` is not -12 to 12.
+    /// `a`, `b`, `chroma_u` or `chroma_v` is not -12 to 12.
     BadOffset = 6,
     /// A byte of `inter`, `t8s` or `marks` that is read is above 1.
     NotABool = 7,

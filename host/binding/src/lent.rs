@@ -48,15 +48,17 @@ pub struct Place {
     pub y: usize,
 }
 
-/// The three offsets of a picture, each -12 to 12.
+/// The four offsets of a picture, each -12 to 12.
 #[derive(Clone, Copy, PartialEq, Eq, Debug, Default)]
 pub struct Offsets {
     /// FilterOffsetA: twice `slice_alpha_c0_offset_div2`.
     pub a: i32,
     /// FilterOffsetB: twice `slice_beta_offset_div2`.
     pub b: i32,
-    /// `chroma_qp_index_offset`.
-    pub chroma: i32,
+    /// U's chroma offset: `chroma_qp_index_offset`.
+    pub chroma_u: i32,
+    /// V's chroma offset: `second_chroma_qp_index_offset`; in a stream that does not send it, U's.
+    pub chroma_v: i32,
 }
 
 /// What the caller knows of a macroblock. A kind that is not true of the grids is refused.

@@ -112,6 +112,11 @@ mod tests {
         }
     }
 
+    const AT: Place = Place { x: 0, y: 0 };
+
+    /// The three calls that filter a lone macroblock.
+    const ASKS: [fn(&mut Picture) -> Answer; 3] = [|p| p.whole(), |p| p.rows(0..1), |p| p.visit(AT)];
+
     /// Strength 4 between 60 and 70, in one macroblock.
     struct Step {
         luma: Vec<u8>,
@@ -159,9 +164,8 @@ mod tests {
     /// The same in every second line of a frame.
     #[test]
     fn a_strong_edge_in_a_field() {
-        let asks = [|p: &mut Picture| p.whole(), |p: &mut Picture| p.rows(0..1), |p: &mut Picture| p.visit(AT)];
         for (part, parity) in [(Part::TopField, 0), (Part::BottomField, 1)] {
-            for ask in asks {
+            for ask in ASKS {
                 let mut step = Step::of_field(parity);
                 let mut p = Picture { part, marks: &mut [0], ..step.lent(&[30]) };
                 assert!(ask(&mut p).is_done());
@@ -169,6 +173,47 @@ mod tests {
                     true => samples[4..12] == [60, 60, 60, 63, 68, 70, 70, 70],
                     false => samples == [200; 16],
                 }));
+            }
+        }
+    }
+
+    /// A step from 60 to 82 in U and V: at QP 30 alpha is 22 with chroma offset 0, which leaves it, and 25
+    /// with 1, which makes 60 66 77 82 of 60 60 82 82.
+    #[test]
+    fn chroma_offsets_reach_their_own_plane_alone() {
+        for (part, parity) in [(Part::Frame, 0), (Part::TopField, 0), (Part::BottomField, 1)] {
+            for (ask, chroma) in ASKS.into_iter().flat_map(|ask| [(ask, [0, 0]), (ask, [1, 0]), (ask, [0, 1])]) {
+                let mut step = if part == Part::Frame { Step::new() } else { Step::of_field(parity) };
+                step.chroma.iter_mut().flatten().enumerate().for_each(|(i, s)| *s = if i % 8 < 4 { 60 } else { 82 });
+                let [chroma_u, chroma_v] = chroma;
+                let offsets = Offsets { chroma_u, chroma_v, ..Offsets::default() };
+                assert!(ask(&mut Picture { part, offsets, marks: &mut [0], ..step.lent(&[30]) }).is_done());
+                let own = 8 * parity;
+                let line = step.chroma.map(|plane| plane[own + 2..own + 6].to_vec());
+                assert_eq!(line, chroma.map(|offset| if offset == 1 { [60, 66, 77, 82] } else { [60, 60, 82, 82] }));
+            }
+        }
+    }
+
+    /// With 8x8 flags that are refused later; without QPs, which is refused before.
+    #[test]
+    fn each_of_the_four_offsets_is_asked_about() {
+        let of: [fn(i32) -> Offsets; 4] = [
+            |a| Offsets { a, ..Offsets::default() },
+            |b| Offsets { b, ..Offsets::default() },
+            |chroma_u| Offsets { chroma_u, ..Offsets::default() },
+            |chroma_v| Offsets { chroma_v, ..Offsets::default() },
+        ];
+        let values = [(-13, false), (-12, true), (12, true), (13, false), (i32::MIN, false), (i32::MAX, false)];
+        for (ask, of) in ASKS.into_iter().flat_map(|ask| of.map(|of| (ask, of))) {
+            for (offsets, good) in values.map(|(value, good)| (of(value), good)) {
+                let mut step = Step::new();
+                let mut answer = |qps, t8s| ask(&mut Picture { offsets, t8s, marks: &mut [0], ..step.lent(qps) });
+                let later = if good { Answer::NotABool } else { Answer::BadOffset };
+                assert_eq!([answer(&[30], &[2]), answer(&[], &[2])], [later, Answer::MacroblockGridLength]);
+                let answer = answer(&[30], &[]);
+                assert_eq!(answer, if good { Answer::Done } else { Answer::BadOffset }, "{offsets:?}");
+                assert!(good || (step.luma, step.chroma) == (Step::new().luma, Step::new().chroma));
             }
         }
     }
@@ -186,8 +231,6 @@ mod tests {
         });
         assert!(one.is_filtered() && other.is_filtered());
     }
-
-    const AT: Place = Place { x: 0, y: 0 };
 
     #[test]
     fn nothing_lent_is_refused() {

@@ -51,19 +51,22 @@ mod c {
             strengths: *mut u8, strengths_len: usize,
         ) -> u32;
         pub fn deblock_whole(
-            w: usize, h: usize, part: u8, a: i32, b: i32, chroma: i32,
+            w: usize, h: usize, part: u8,
+            a: i32, b: i32, chroma_u: i32, chroma_v: i32,
             luma: *mut u8, luma_len: usize, u: *mut u8, u_len: usize, v: *mut u8, v_len: usize,
             strengths: *const u8, strengths_len: usize, qps: *const u8, qps_len: usize,
             t8s: *const u8, t8s_len: usize,
         ) -> u32;
         pub fn deblock_rows(
-            w: usize, h: usize, part: u8, first: usize, last: usize, a: i32, b: i32, chroma: i32,
+            w: usize, h: usize, part: u8, first: usize, last: usize,
+            a: i32, b: i32, chroma_u: i32, chroma_v: i32,
             luma: *mut u8, luma_len: usize, u: *mut u8, u_len: usize, v: *mut u8, v_len: usize,
             strengths: *const u8, strengths_len: usize, qps: *const u8, qps_len: usize,
             t8s: *const u8, t8s_len: usize,
         ) -> u32;
         pub fn deblock_visit(
-            w: usize, h: usize, part: u8, x: usize, y: usize, a: i32, b: i32, chroma: i32,
+            w: usize, h: usize, part: u8, x: usize, y: usize,
+            a: i32, b: i32, chroma_u: i32, chroma_v: i32,
             luma: *mut u8, luma_len: usize, u: *mut u8, u_len: usize, v: *mut u8, v_len: usize,
             strengths: *const u8, strengths_len: usize, qps: *const u8, qps_len: usize,
             t8s: *const u8, t8s_len: usize, marks: *mut u8, marks_len: usize,
@@ -132,7 +135,8 @@ pub fn whole(p: &mut Picture, part: u8) -> u32 {
     // SAFETY: as above; the three planes are borrowed apart from each other.
     unsafe {
         c::deblock_whole(
-            p.size.w, p.size.h, part, p.offsets.a, p.offsets.b, p.offsets.chroma,
+            p.size.w, p.size.h, part,
+            p.offsets.a, p.offsets.b, p.offsets.chroma_u, p.offsets.chroma_v,
             p.luma.as_mut_ptr(), p.luma.len(), p.u.as_mut_ptr(), p.u.len(), p.v.as_mut_ptr(), p.v.len(),
             p.strengths.as_ptr(), p.strengths.len(), p.qps.as_ptr(), p.qps.len(), p.t8s.as_ptr(), p.t8s.len(),
         )
@@ -144,7 +148,8 @@ pub fn rows(p: &mut Picture, part: u8, first: usize, last: usize) -> u32 {
     // SAFETY: as above.
     unsafe {
         c::deblock_rows(
-            p.size.w, p.size.h, part, first, last, p.offsets.a, p.offsets.b, p.offsets.chroma,
+            p.size.w, p.size.h, part, first, last,
+            p.offsets.a, p.offsets.b, p.offsets.chroma_u, p.offsets.chroma_v,
             p.luma.as_mut_ptr(), p.luma.len(), p.u.as_mut_ptr(), p.u.len(), p.v.as_mut_ptr(), p.v.len(),
             p.strengths.as_ptr(), p.strengths.len(), p.qps.as_ptr(), p.qps.len(), p.t8s.as_ptr(), p.t8s.len(),
         )
@@ -156,7 +161,8 @@ pub fn visit(p: &mut Picture, part: u8, at: Place) -> u32 {
     // SAFETY: as above; the marks are borrowed apart from the planes.
     unsafe {
         c::deblock_visit(
-            p.size.w, p.size.h, part, at.x, at.y, p.offsets.a, p.offsets.b, p.offsets.chroma,
+            p.size.w, p.size.h, part, at.x, at.y,
+            p.offsets.a, p.offsets.b, p.offsets.chroma_u, p.offsets.chroma_v,
             p.luma.as_mut_ptr(), p.luma.len(), p.u.as_mut_ptr(), p.u.len(), p.v.as_mut_ptr(), p.v.len(),
             p.strengths.as_ptr(), p.strengths.len(), p.qps.as_ptr(), p.qps.len(), p.t8s.as_ptr(), p.t8s.len(),
             p.marks.as_mut_ptr(), p.marks.len(),

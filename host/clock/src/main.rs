@@ -5,7 +5,8 @@
 //! which other programs on the machine do not add to. What counts is the ratio of two times on the SAME
 //! picture, and its median over all pictures: a machine whose pace drifts during the run moves both times of
 //! a picture and hardly their ratio. The filtered planes are compared as well. A frame as two fields, which
-//! the original cannot filter, is timed beside the original's whole frame, without a bound.
+//! the original cannot filter, is timed beside the original's whole frame, without a bound. So is the
+//! archive's whole picture with two chroma offsets, beside its own with one for both planes.
 
 mod cpu_time;
 mod picture;
@@ -46,7 +47,8 @@ struct Subject {
 const HELP: &str = "clock [PICTURES]: the proved archive against the Rust original on pictures of 720 by 576
 with stored strengths, PICTURES of each content (300 or more; 300 without). Ratios are medians over the
 pictures, each of two times on one picture. Exit status 0: every ratio to the original is within its bound.
-That of two fields, to the original's whole frame of the same samples, has none.";
+That of two fields, to the original's whole frame of the same samples, has none, nor has that of two chroma
+offsets, to the archive's own whole picture with one.";
 
 fn main() -> ExitCode {
     let words: Vec<String> = std::env::args().skip(1).collect();
@@ -67,6 +69,7 @@ fn main() -> ExitCode {
         "          Rust  picture      whole picture           raster   wavefront    raster  wavefront  of the Rust's"
     );
     let within = SUBJECTS.map(|subject| subject.clock(pictures)).iter().all(|&within| within);
+    println!("mixed, whole picture, chroma offsets 1 and -1: {:.3} of its time with 0 and 0", two_offsets(pictures));
     println!("{}", if within { "every ratio within its bound" } else { "a ratio ABOVE its bound" });
     if within {
         ExitCode::SUCCESS
@@ -96,6 +99,13 @@ impl Subject {
         );
         whole <= self.bound && raster.max(wavefront) <= VISITS_BOUND
     }
+}
+
+/// The archive's whole picture with two chroma offsets, over that with one: about as much is filtered.
+fn two_offsets(pictures: usize) -> f64 {
+    let mut r = Rng::new(13);
+    let mut times = |turn| Picture::new(&mut r, Content::Mixed, CODED).chroma_times([[1, -1], [0, 0]], turn);
+    median((0..pictures + WARM).map(&mut times).skip(WARM).map(|[two, one]| two / one).collect())
 }
 
 fn median(mut values: Vec<f64>) -> f64 {

@@ -1,6 +1,6 @@
 //! A picture with stored strengths, and the time that each way takes for it.
 
-use crate::ways::Way;
+use crate::ways::{whole, Way};
 use inputs::{strengths, texture, Content, Rng, Texture};
 
 /// 720 by 576 in macroblocks.
@@ -39,6 +39,16 @@ impl Picture {
             }
             let same = first.get_or_insert_with(|| planes.clone());
             assert!(*same == planes, "{way:?} differs from the way before it: run the judge");
+        }
+        times
+    }
+
+    /// The seconds of the archive's whole-picture call with each of two pairs of chroma offsets, U's and V's;
+    /// `turn` says which comes first.
+    pub fn chroma_times(&self, pairs: [[i32; 2]; 2], turn: usize) -> [f64; 2] {
+        let mut times = [0.0; 2];
+        for i in [turn % 2, (turn + 1) % 2] {
+            times[i] = whole(self, &mut self.planes.clone(), pairs[i]);
         }
         times
     }

@@ -2,7 +2,7 @@
 
 use crate::cpu_time::seconds;
 use crate::picture::{Picture, H, W};
-use deblock::{Part, Place, Size};
+use deblock::{Offsets, Part, Place, Size};
 
 const SIZE: Size = Size { w: W, h: H };
 
@@ -28,7 +28,7 @@ impl Way {
     pub fn seconds(self, picture: &Picture, planes: &mut [Vec<u8>; 3]) -> f64 {
         match self {
             Way::Original => original(picture, planes),
-            Way::Whole => archive(picture, planes, |lent| assert!(lent.whole().is_done())),
+            Way::Whole => whole(picture, planes, [0; 2]),
             Way::Raster => visits(picture, planes, SIZE.places().collect()),
             Way::Wavefront => {
                 let mut order: Vec<Place> = SIZE.places().collect();
@@ -44,6 +44,14 @@ fn original(picture: &Picture, [luma, u, v]: &mut [Vec<u8>; 3]) -> f64 {
     let stored = oracle::Stored::new(W, H, &picture.strengths, &picture.qps, &picture.t8s);
     let offsets = oracle::Offsets { a: 0, b: 0, chroma: 0 };
     timed(|| stored.filter_frame(oracle::Planes { luma, u, v }, offsets))
+}
+
+/// The archive's whole-picture call with U's and V's chroma offsets.
+pub fn whole(picture: &Picture, planes: &mut [Vec<u8>; 3], [chroma_u, chroma_v]: [i32; 2]) -> f64 {
+    archive(picture, planes, |lent| {
+        lent.offsets = Offsets { chroma_u, chroma_v, ..Offsets::default() };
+        assert!(lent.whole().is_done());
+    })
 }
 
 fn visits(picture: &Picture, planes: &mut [Vec<u8>; 3], order: Vec<Place>) -> f64 {

@@ -191,7 +191,7 @@ fn varied(w: usize, h: usize) -> Request {
     let v = |i: usize| 90 + ((i * 7 + i / 16 * 3) % 8) as u8;
     let strength = |i: usize| ((i * 3 + i / 32) % 5) as u8;
     let mut r = picture(w, h, Fills { luma, u, v, strength });
-    r.offsets = [2, -3, 1];
+    r.offsets = [2, -3, 1, 1];
     r
 }
 
@@ -214,7 +214,7 @@ fn one_wide() -> Request {
 fn fields(count: usize) -> [Request; 2] {
     let Request { luma, u, v, .. } = varied(2, 2 * count);
     let top = Request { part: 1, luma, u, v, ..mixed() };
-    let mut bottom = Request { part: 2, offsets: [-1, 4, -2], ..top.clone() };
+    let mut bottom = Request { part: 2, offsets: [-1, 4, -2, -2], ..top.clone() };
     bottom.strengths = (0..128).map(|i| ((i * 2 + i / 16) % 5) as u8).collect::<Vec<u8>>().into();
     bottom.qps = vec![44, 33, 38, 35].into();
     bottom.t8s = vec![1, 0, 0, 1].into();
@@ -241,13 +241,14 @@ mod tests {
 
     #[test]
     fn what_is_lent_for_the_other_field_shows() {
-        let exchanges: [fn(&mut Request, &mut Request); 6] = [
+        let exchanges: [fn(&mut Request, &mut Request); 7] = [
             |top, bottom| swap(&mut top.strengths, &mut bottom.strengths),
             |top, bottom| swap(&mut top.qps, &mut bottom.qps),
             |top, bottom| swap(&mut top.t8s, &mut bottom.t8s),
             |top, bottom| swap(&mut top.offsets[0], &mut bottom.offsets[0]),
             |top, bottom| swap(&mut top.offsets[1], &mut bottom.offsets[1]),
             |top, bottom| swap(&mut top.offsets[2], &mut bottom.offsets[2]),
+            |top, bottom| swap(&mut top.offsets[3], &mut bottom.offsets[3]),
         ];
         let right = line(fields(2), INTERLACED[0]);
         for exchange in exchanges {

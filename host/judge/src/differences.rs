@@ -134,11 +134,12 @@ pub struct Seen {
 /// conversion to the original's types is none, since nobody could have made that call: it ends the program.
 pub fn original(q: &Request) -> Seen {
     assert!(q.call != Call::Visit && q.kind < 4, "the original has no such call");
+    let [a, b, chroma, chroma_v] = q.offsets;
+    assert_eq!(chroma, chroma_v, "the original has one chroma offset");
     let mut after = q.clone();
     let grids = Grids { inter: &q.inter, nnz: &q.nnz, ref0: &q.ref0, mv0: &q.mv0, ref1: &q.ref1, mv1: &q.mv1 };
     let blocks = Blocks::new(q.w, grids);
     let stored = (!q.call.is_strengths()).then(|| Stored::new(q.w, q.h, &q.strengths, &q.qps, &q.t8s));
-    let [a, b, chroma] = q.offsets;
     let offsets = Offsets { a, b, chroma };
     let t8 = q.t8s.get(q.at()) == Some(&1);
     let planes = Planes { luma: &mut after.luma, u: &mut after.u, v: &mut after.v };
@@ -277,7 +278,7 @@ mod tests {
         let weak = || Request { strengths: vec![0; 32].into(), ..picture(1, 1) };
         assert!(row(8, lone, Rust::Does(&[("as with 51", |seen| seen.as_with(|q| q.qps[0] = 51))])));
         assert!(!row(9, lone, Rust::CannotBeLent("the number is 8")));
-        assert!(!row(8, || Request { offsets: [13; 3], ..picture(1, 1) }, Rust::CannotBeLent("13 is refused")));
+        assert!(!row(8, || Request { offsets: [13; 4], ..picture(1, 1) }, Rust::CannotBeLent("13 is refused")));
         assert!(!row(8, lone, Rust::Does(&[("panics", Seen::panics)])));
         assert!(!row(8, lone, Rust::Does(&[("does nothing", Seen::nothing)])));
         assert!(!row(8, lone, Rust::Does(&[("as with 50", |seen| seen.as_with(|q| q.qps[0] = 50))])));

@@ -1,5 +1,5 @@
-//! Compares the proved archive with the Rust original, in fields, under 8x8 flags and in streams with models,
-//! every answer and every lent byte.
+//! Compares the proved archive with the Rust original, in fields, under 8x8 flags, with two chroma offsets
+//! and in streams with models, every answer and every lent byte.
 
 mod arrivals;
 mod counts;
@@ -39,9 +39,9 @@ use std::time::{Duration, Instant};
 use subject::Archive;
 
 const HELP: &str = "judge: compares the proved archive with the Rust original, every answer and every lent byte,
-and in what the original does not have, fields and coefficients of 8x8 blocks, with a model of the rules that
-agrees with the original; streams, which it does not have either, with a reading of them that was written on
-its own
+and in what the original does not have, fields, coefficients of 8x8 blocks and a chroma offset of V's own, with
+a model of the rules that agrees with the original; streams, which it does not have either, with a reading of
+them that was written on its own
 
   judge bounded [SEED]       all small cases, then 80 rounds of random ones: about a minute
   judge long SECONDS [SEED]  all small cases, then rounds until the time is over

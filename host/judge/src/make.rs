@@ -17,8 +17,18 @@ pub fn size(r: &mut Rng, area: usize) -> (usize, usize) {
     }
 }
 
-/// A filtering call on a picture of any content, for random rows or a random macroblock.
+/// A filtering call on a picture of any content, for random rows or a random macroblock. In one of two V's
+/// chroma offset is drawn apart from U's.
 pub fn picture(r: &mut Rng, of: Structure, call: Call, w: usize, h: usize) -> Request {
+    let mut q = picture_of_one_offset(r, of, call, w, h);
+    if r.once_in(2) {
+        q.offsets[3] = if r.once_in(2) { r.pick(&[-12, 12, 0]) } else { r.within(-12, 12) };
+    }
+    q
+}
+
+/// The same with U's chroma offset for V too, as the original has it.
+pub fn picture_of_one_offset(r: &mut Rng, of: Structure, call: Call, w: usize, h: usize) -> Request {
     let n = w * h;
     let mut q = Request::new(call, w, h);
     q.part = part(r, of, &[1, 2]);
@@ -37,11 +47,12 @@ pub fn picture(r: &mut Rng, of: Structure, call: Call, w: usize, h: usize) -> Re
         _ => (0..n).map(|_| r.below(2) as u8).collect(),
     }
     .into();
-    q.offsets = match r.below(3) {
+    let [a, b, chroma] = match r.below(3) {
         0 => [0; 3],
         1 => [r.pick(&[-12, 12, 0]), r.pick(&[-12, 12, 0]), r.pick(&[-12, 12, 0])],
         _ => [r.within(-12, 12), r.within(-12, 12), r.within(-12, 12)],
     };
+    q.offsets = [a, b, chroma, chroma];
     if call == Call::Visit {
         q.marks = (0..n).map(|_| !r.once_in(6) as u8).collect::<Vec<u8>>().into();
         let at = q.at();
@@ -210,6 +221,28 @@ fn macroblock(r: &mut Rng, q: &mut Request, motions: &Motions) {
         (q.ref0[b], q.mv0[2 * b], q.mv0[2 * b + 1]) = list_0;
         if !q.ref1.is_empty() {
             (q.ref1[b], q.mv1[2 * b], q.mv1[2 * b + 1]) = list_1;
+        }
+    }
+}
+
+#[cfg(test)]
+mod tests {
+    use super::*;
+    use crate::request::FILTER_CALLS;
+
+    /// Of a call about half have two chroma offsets, and each limit comes up beside each.
+    #[test]
+    fn chroma_offsets_are_one_or_two() {
+        let mut r = Rng::new(1);
+        for (of, call) in
+            [Structure::Frame, Structure::Field].into_iter().flat_map(|of| FILTER_CALLS.map(|call| (of, call)))
+        {
+            let offsets: Vec<[i32; 4]> = (0..1000).map(|_| picture(&mut r, of, call, 1, 1).offsets).collect();
+            let two = offsets.iter().filter(|[.., chroma_u, chroma_v]| chroma_u != chroma_v).count();
+            assert!((400..600).contains(&two), "{two}");
+            for limits in [[-12, -12], [-12, 12], [12, -12], [12, 12]] {
+                assert!(offsets.iter().any(|offsets| offsets[2..] == limits), "{limits:?}");
+            }
         }
     }
 }

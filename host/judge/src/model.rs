@@ -1,9 +1,9 @@
 //! The rules of docs/RULES.md as a plain program, which can be told to make one mistake.
 //!
-//! Without a mistake it is what a field is held to, and a strength call that reads an 8x8 flag which is set;
-//! elsewhere it is a second opinion beside the Rust original: `judge bounded` and `judge mutants` ask that
-//! the two agree. It finds the lines of a field where they lie in the frame; what the original is asked of a
-//! field (original.rs) has them taken out.
+//! Without a mistake it is what a field is held to, a strength call that reads an 8x8 flag which is set, and
+//! a filtering call with two chroma offsets; elsewhere it is a second opinion beside the Rust original:
+//! `judge bounded` and `judge mutants` ask that the two agree. It finds the lines of a field where they lie in
+//! the frame; what the original is asked of a field (original.rs) has them taken out.
 
 use crate::mistakes::Mistake;
 use crate::request::{Call, Request};
@@ -123,7 +123,7 @@ impl Model {
             return;
         }
         let at = e.y * r.w + e.x;
-        let thresholds = self.thresholds(r, r.qps[self.neighbour(r, e)].into(), r.qps[at].into(), e.chroma.is_some());
+        let thresholds = self.thresholds(r, r.qps[self.neighbour(r, e)].into(), r.qps[at].into(), e.chroma);
         let from = 32 * at + 4 * e.number + if e.horizontal { 16 } else { 0 };
         let four: [u8; 4] = std::array::from_fn(|i| r.strengths[from + i]);
         let (first, apart) = self.lines(r, e.chroma.is_some());

@@ -29,7 +29,8 @@ impl Model {
             Call::Rows => self.wrong_rows(r, number),
             _ => self.wrong_strengths(r, number),
         };
-        wrong.or_else(|| self.wrong_part(r, number)).or_else(|| self.wrong_anywhere(r, number)).unwrap_or(number)
+        let wrong = wrong.or_else(|| self.wrong_part(r, number)).or_else(|| self.wrong_offset(r, number));
+        wrong.or_else(|| self.wrong_anywhere(r, number)).unwrap_or(number)
     }
 
     fn wrong_visit(&self, r: &Request, number: u32) -> Option<u32> {
@@ -98,6 +99,21 @@ impl Model {
             Mistake::PartBeforePlace if number == 2 && r.part > 2 => Some(19),
             Mistake::SingleLengths if number == 0 && r.part > 0 => Some(as_part(0)),
             Mistake::DoubledFrameTaken if number == 3 && r.part == 0 => Some(as_part(1)),
+            _ => None,
+        }
+    }
+
+    /// Of the two chroma offsets, in filtering calls.
+    fn wrong_offset(&self, r: &Request, number: u32) -> Option<u32> {
+        let [.., chroma_u, chroma_v] = r.offsets;
+        let without_v = || with(r, |q| q.offsets[3] = 0);
+        match self.mistake.filter(|_| !r.call.is_strengths())? {
+            Mistake::OffsetOfUUnasked if number == 6 => Some(with(r, |q| q.offsets[2] = 0)),
+            Mistake::OffsetOfVUnasked if number == 6 => Some(without_v()),
+            Mistake::OffsetOfVBeforeLengths if number == 4 && !(-12..=12).contains(&chroma_v) => Some(6),
+            Mistake::OffsetOfVAfterFlags if number == 6 && without_v() == 7 => Some(7),
+            Mistake::TwoOffsetsRefused if number == 0 && chroma_u != chroma_v => Some(6),
+            Mistake::OffsetDifferenceAsked if number == 0 && chroma_u.abs_diff(chroma_v) > 12 => Some(6),
             _ => None,
         }
     }

@@ -2,7 +2,7 @@
 
 use crate::mistakes::Mistake;
 use crate::model::Model;
-use crate::request::Request;
+use crate::request::{Call, Request};
 
 pub struct Thresholds {
     pub alpha: i32,
@@ -11,21 +11,48 @@ pub struct Thresholds {
 }
 
 impl Model {
-    /// Of an edge between macroblocks of QPs `p` and `q`.
-    pub fn thresholds(&self, r: &Request, p: i32, q: i32, chroma: bool) -> Thresholds {
-        let [a, b, offset] = r.offsets;
-        let offset = if self.has(Mistake::ChromaOffsetIgnored) { 0 } else { offset };
-        let map = |qp: i32| if chroma { mapped((qp + offset).clamp(0, 51)) } else { qp };
+    /// Of an edge between macroblocks of QPs `p` and `q`, in luma or in U (false) or V (true).
+    pub fn thresholds(&self, r: &Request, p: i32, q: i32, chroma: Option<bool>) -> Thresholds {
+        let [a, b, chroma_u, _] = r.offsets;
+        let own = chroma.map(|is_v| self.chroma_offset(r, is_v));
+        let beside = if self.has(Mistake::BesideByOffsetOfU) { own.map(|_| chroma_u) } else { own };
+        // a mistake may let any offset through to here
+        let map = |qp: i32, offset: Option<i32>| match offset {
+            Some(offset) => mapped(qp.saturating_add(offset).clamp(0, 51)),
+            None => qp,
+        };
         let round = if self.has(Mistake::AverageRoundsDown) { 0 } else { 1 };
         let average = match self.mistake {
-            Some(Mistake::AveragesBeforeMapping) => map((p + q + 1) >> 1),
-            _ => (map(p) + map(q) + round) >> 1,
+            Some(Mistake::AveragesBeforeMapping) => map((p + q + 1) >> 1, own),
+            _ => (map(p, beside) + map(q, own) + round) >> 1,
         };
         let index_a = (average + a).clamp(0, 51) as usize;
         let index_b = (average + b).clamp(0, 51) as usize;
         let beta = BETA[if self.has(Mistake::BetaByIndexA) { index_a } else { index_b }];
         let tc0 = TC0[if self.has(Mistake::Tc0ByIndexB) { index_b } else { index_a }];
         Thresholds { alpha: ALPHA[index_a], beta, tc0 }
+    }
+
+    /// What is added to a QP before Table 8-15 (clause 8.5.8): chroma_qp_index_offset in U, which is Cb, and
+    /// second_chroma_qp_index_offset in V, which is Cr.
+    fn chroma_offset(&self, r: &Request, is_v: bool) -> i32 {
+        let [.., chroma_u, chroma_v] = r.offsets;
+        let takes_u = match self.mistake {
+            Some(Mistake::ChromaOffsetIgnored) => return 0,
+            Some(Mistake::ChromaOffsetsAdded) if is_v => return chroma_u + chroma_v,
+            Some(Mistake::UByOffsetOfV) => false,
+            Some(Mistake::VByOffsetOfU) => true,
+            Some(Mistake::ChromaOffsetsExchanged) => is_v,
+            Some(Mistake::RowsByOffsetOfU) => !is_v || r.call == Call::Rows,
+            Some(Mistake::VisitByOffsetOfU) => !is_v || r.call == Call::Visit,
+            Some(Mistake::FieldByOffsetOfU) => !is_v || r.part != 0,
+            _ => !is_v,
+        };
+        if takes_u {
+            chroma_u
+        } else {
+            chroma_v
+        }
     }
 }
 

@@ -7,14 +7,24 @@
 //!
 //! Nor does it know coefficients of 8x8 blocks. Where an 8x8 flag that is read is set it is asked as long as
 //! no count tells a block from its 8x8 block.
+//!
+//! It has one chroma offset. Where U's and V's differ it is asked twice, once with each: luma must be the
+//! same of both, U is taken from the first answer and V from the second.
 
 use crate::request::{Buffer, Call, Request, Structure};
 use crate::table;
 use oracle::{Blocks, Grids, Offsets, Planes, Stored};
 
-/// Whether the original has just what is asked for: a frame, and for a strength call no 8x8 flag that is set.
+/// Whether the original has just what is asked for: a frame, for a strength call no 8x8 flag that is set, for
+/// a filtering call one chroma offset.
 pub fn decides(r: &Request) -> bool {
-    r.structure() == Structure::Frame && !(r.call.is_strengths() && reads_flag(r))
+    r.structure() == Structure::Frame && !(r.call.is_strengths() && reads_flag(r)) && !is_asked_twice(r)
+}
+
+/// Whether a filtering call has two chroma offsets.
+pub fn is_asked_twice(r: &Request) -> bool {
+    let [.., chroma_u, chroma_v] = r.offsets;
+    !r.call.is_strengths() && chroma_u != chroma_v
 }
 
 /// Whether an 8x8 flag that is read is set.
@@ -59,8 +69,17 @@ fn strengths(r: &mut Request) {
 }
 
 fn planes(r: &mut Request) {
-    let [a, b, chroma] = r.offsets;
-    let offsets = Offsets { a, b, chroma };
+    let [a, b, chroma_u, chroma_v] = r.offsets;
+    let second = is_asked_twice(r).then(|| r.clone());
+    planes_by(r, Offsets { a, b, chroma: chroma_u });
+    if let Some(mut second) = second {
+        planes_by(&mut second, Offsets { a, b, chroma: chroma_v });
+        assert!(second.luma == r.luma, "luma is the same with every chroma offset");
+        r.v = second.v;
+    }
+}
+
+fn planes_by(r: &mut Request, offsets: Offsets) {
     let at = r.at();
     let planes = Planes { luma: &mut r.luma, u: &mut r.u, v: &mut r.v };
     if r.call == Call::Visit {
@@ -116,7 +135,28 @@ fn field_planes(r: &mut Request) {
 #[cfg(test)]
 mod tests {
     use super::*;
-    use crate::small::kinds_picture;
+    use crate::request::FILTER_CALLS;
+    use crate::small::{blocky, kinds_picture};
+
+    /// U is that of U's chroma offset for both planes, V that of V's. At QP 24 chroma offset -12 filters
+    /// nothing.
+    #[test]
+    fn two_chroma_offsets_are_asked_about_one_by_one() {
+        for (part, call) in (0..3).flat_map(|part| FILTER_CALLS.map(|call| (part, call))) {
+            let with = |chroma_u: i32, chroma_v: i32| {
+                let mut q = blocky(part, call, 1, 1, 5);
+                q.strengths.fill(3);
+                q.qps.fill(24);
+                q.offsets[2..].copy_from_slice(&[chroma_u, chroma_v]);
+                assert_eq!(decides(&q), part == 0 && chroma_u == chroma_v);
+                assert!(work(&mut q));
+                q
+            };
+            let (low, high, apart) = (with(-12, -12), with(12, 12), with(-12, 12));
+            assert!(apart.luma == low.luma && apart.luma == high.luma);
+            assert!(apart.u == low.u && apart.u != high.u && apart.v == high.v && apart.v != low.v);
+        }
+    }
 
     /// Of (1, 0) in 2 by 1 of one motion, with these 8x8 flags and counts that tell blocks from their 8x8
     /// blocks in both: whether the original is asked, and whether it is once the counts are spread.

@@ -21,7 +21,7 @@ pub fn run(out: &mut impl Write) -> bool {
 fn recording(seed: u64) -> Vec<u8> {
     let mut r = Rng::new(seed);
     let (w, h) = make::size(&mut r, AREA);
-    let before = make::picture(&mut r, Structure::Frame, Call::Whole, w, h);
+    let before = make::picture_of_one_offset(&mut r, Structure::Frame, Call::Whole, w, h);
     // every third has strengths that no grids give, 4 on inner edges among them
     if seed.is_multiple_of(3) {
         return write(&before, None);
@@ -42,11 +42,11 @@ fn recording(seed: u64) -> Vec<u8> {
 fn write(before: &Request, grids: Option<&Request>) -> Vec<u8> {
     let mut after = before.clone();
     assert_eq!(expect(&mut after), 0, "a made picture is good");
-    let [a, b, chroma] = before.offsets.map(|o| o as i8 as u8);
+    let [a, b, chroma_u, chroma_v] = before.offsets.map(|o| o as i8 as u8);
     let lists = grids.is_some_and(|g| !g.ref1.is_empty());
     let flags = u8::from(lists) + 2 * u8::from(!before.t8s.is_empty()) + 16 * u8::from(grids.is_none());
     let mut out = b"DBV1".to_vec();
-    out.extend([before.w as u8, 0, before.h as u8, 0, 8, 1, flags, chroma, chroma, 0]);
+    out.extend([before.w as u8, 0, before.h as u8, 0, 8, 1, flags, chroma_u, chroma_v, 0]);
     for picture in [before, &after] {
         out.extend([&picture.luma[..], &picture.u, &picture.v].concat());
     }

@@ -9,7 +9,7 @@ use inputs::Rng;
 type Damage = fn(&mut Rng, &mut Request);
 
 /// Each with the number that it calls forth, in some call and at some place.
-const DAMAGES: [(u32, Damage); 25] = [
+const DAMAGES: [(u32, Damage); 28] = [
     (1, |r, q| q.w = r.pick(&HUGE)),
     (1, |r, q| q.h = r.pick(&HUGE)),
     (1, |r, q| (q.w, q.h) = r.pick(&[(256, 145), (145, 256), (256, 256), (193, 192), (1 << 32, 1 << 32)])),
@@ -26,7 +26,10 @@ const DAMAGES: [(u32, Damage); 25] = [
     (5, |r, q| if r.once_in(2) { spoil_length(r, &mut q.inter) } else { spoil_length(r, &mut q.nnz) }),
     (5, |r, q| if r.once_in(2) { spoil_length(r, &mut q.ref0) } else { spoil_length(r, &mut q.mv0) }),
     (5, |r, q| if r.once_in(2) { spoil_length(r, &mut q.ref1) } else { spoil_length(r, &mut q.mv1) }),
-    (6, |r, q| q.offsets[r.below(3)] = r.pick(&[-13, 13, i32::MIN, i32::MAX, 255, -256])),
+    (6, |r, q| q.offsets[r.below(2)] = r.pick(&FAR_OFFSETS)),
+    (6, |r, q| q.offsets[2] = r.pick(&FAR_OFFSETS)),
+    (6, |r, q| q.offsets[3] = r.pick(&FAR_OFFSETS)),
+    (6, |r, q| q.offsets[2..].fill(r.pick(&FAR_OFFSETS))),
     (7, |r, q| {
         let value = r.pick(&[2, 3, 128, 255]);
         match q.call {
@@ -80,6 +83,9 @@ fn damages(of: Structure) -> Vec<(u32, Damage)> {
 
 /// Sides that are too large, whose products and sums overflow.
 const HUGE: [usize; 8] = [0, 257, usize::MAX, 1 << 63, (1 << 63) + 1, 1 << 32, 1 << 56, usize::MAX / 32 + 2];
+
+/// Offsets that are out of range, just so and by far.
+const FAR_OFFSETS: [i32; 6] = [-13, 13, i32::MIN, i32::MAX, 255, -256];
 
 /// One good request of each call, spoiled once and twice in every combination.
 pub fn every_pair(s: &mut Session, r: &mut Rng, of: Structure, area: usize) -> Outcome {

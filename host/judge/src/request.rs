@@ -74,8 +74,8 @@ pub struct Request {
     pub kind: u8,
     pub flat: u8,
     pub uniform: u8,
-    /// A, B, chroma.
-    pub offsets: [i32; 3],
+    /// A, B, U's chroma offset, V's.
+    pub offsets: [i32; 4],
     pub inter: Buffer<u8>,
     pub nnz: Buffer<u8>,
     pub ref0: Buffer<i8>,
@@ -105,7 +105,7 @@ impl Request {
             kind: 0,
             flat: 0,
             uniform: 0,
-            offsets: [0; 3],
+            offsets: [0; 4],
             inter: Buffer::default(),
             nnz: Buffer::default(),
             ref0: Buffer::default(),

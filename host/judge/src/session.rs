@@ -86,7 +86,7 @@ impl<'a> Session<'a> {
         self.by_original += u64::from(decides);
         let asks = !decides || self.by_original.is_multiple_of(MODEL_ASKED);
         let other = asks.then(|| second_opinion(r)).flatten();
-        self.note(held_to(r.structure(), decides, other.is_some()));
+        self.note(held_to(r, decides, other.is_some()));
         match other.and_then(|other| other.difference(want)) {
             None => Ok(()),
             Some(what) => {
@@ -154,8 +154,14 @@ impl<'a> Session<'a> {
 }
 
 /// What a call is held to, in words.
-fn held_to(of: Structure, original_decides: bool, both: bool) -> &'static str {
-    match (of, original_decides, both) {
+fn held_to(r: &Request, original_decides: bool, both: bool) -> &'static str {
+    match (r.structure(), original_decides, both) {
+        (Structure::Frame, ..) if original::is_asked_twice(r) => {
+            "calls on frames with two chroma offsets, held to the model and to the original, asked with each"
+        }
+        (Structure::Field, ..) if original::is_asked_twice(r) => {
+            "calls on fields with two chroma offsets, held to the model and to the original, asked with each"
+        }
         (Structure::Frame, true, false) => "calls on frames, held to the original",
         (Structure::Frame, true, true) => "calls on frames, held to the original and to the model",
         (Structure::Frame, false, false) => "calls on frames with 8x8 flags, held to the model",

@@ -100,7 +100,7 @@ fn cut<T: Lent>(b: &mut Buffer<T>, w: usize, h: usize, cell: (usize, usize), are
 }
 
 fn plain_numbers(best: &mut Request, fails: &impl Fn(&Request) -> bool) {
-    for i in 0..3 {
+    for i in 0..best.offsets.len() {
         attempt(best, fails, |r| r.offsets[i] = 0);
     }
     attempt(best, fails, |r| r.flat = 0);
@@ -189,10 +189,10 @@ mod tests {
     fn shrinks_to_what_matters() {
         let mut q = crate::make::picture(&mut inputs::Rng::new(8), Structure::Frame, Call::Whole, 5, 4);
         q.strengths[32 * 19 + 7] = 3;
-        q.offsets = [1, 2, 3];
+        q.offsets = [1, 2, 3, 4];
         let fails = |r: &Request| r.strengths.len() == 32 * r.w * r.h && r.strengths[32 * (r.w * r.h - 1) + 7] == 3;
         let small = smallest(&q, fails);
-        assert_eq!((small.w, small.h, small.offsets), (1, 1, [0; 3]));
+        assert_eq!((small.w, small.h, small.offsets), (1, 1, [0; 4]));
         assert_eq!(small.strengths.iter().map(|&s| s as u32).sum::<u32>(), 3);
         assert!(small.luma.iter().all(|&s| s == 100));
         assert!(describe(&small).contains("strengths: length 32, [7] 3"));

@@ -1,7 +1,7 @@
 //! Everything, where everything is few.
 
 use crate::make;
-use crate::request::{Call, Request, Structure};
+use crate::request::{Call, Request, Structure, FILTER_CALLS};
 use crate::session::{Outcome, Session};
 use crate::small_fields;
 use crate::small_flags;
@@ -16,11 +16,13 @@ pub fn run(s: &mut Session, share: usize) -> Outcome {
         s.about(Structure::of(part));
         every_strength_on_every_segment(s, &mut thin, part)?;
         every_row_range(s, part)?;
+        every_limit_of_offsets(s, part)?;
         if part < 2 {
             // which field it is matters neither to thresholds nor to strength calls; of sides both come up
             every_side(s, &mut thin, Structure::of(part))?;
             every_threshold(s, &mut thin, part)?;
             every_pair_of_chroma_qps(s, &mut thin, part)?;
+            every_pair_of_chroma_offsets(s, &mut thin, part)?;
             every_pair_of_motions(s, &mut thin, part)?;
             every_kind_of_macroblock(s, &mut thin, part)?;
             small_flags::run(s, &mut thin, part)?;
@@ -83,6 +85,11 @@ fn every_strength_on_every_segment(s: &mut Session, thin: &mut Thin, part: u8) -
     Ok(())
 }
 
+/// Number `i` of the 25 offsets that are taken.
+fn offset(i: usize) -> i32 {
+    i as i32 - 12
+}
+
 /// Every QP with every pair of offsets A and B.
 fn every_threshold(s: &mut Session, thin: &mut Thin, part: u8) -> Outcome {
     for (qp, a, b, _) in product([52, 25, 25, 1]) {
@@ -90,16 +97,18 @@ fn every_threshold(s: &mut Session, thin: &mut Thin, part: u8) -> Outcome {
             let mut q = blocky(part, Call::Whole, 1, 1, (qp * 31 + a * 7 + b) as u64);
             q.strengths.iter_mut().enumerate().for_each(|(i, s)| *s = (1 + i % 4) as u8);
             q.qps.fill(qp as u8);
-            q.offsets = [a as i32 - 12, b as i32 - 12, (a as i32 + b as i32) % 25 - 12];
+            let chroma = (a + b) % 25;
+            q.offsets = [a, b, chroma, chroma].map(offset);
             s.check("small", &q)?;
         }
     }
     Ok(())
 }
 
-/// Every pair of neighbouring QPs with every chroma offset.
+/// Every pair of neighbouring QPs with every chroma offset of U, and of V: with the same for both, and with
+/// two, which the QPs put 1 to 24 apart.
 fn every_pair_of_chroma_qps(s: &mut Session, thin: &mut Thin, part: u8) -> Outcome {
-    for (p, q0, chroma, _) in product([52, 52, 25, 1]) {
+    for (two, p, q0, chroma) in product([2, 52, 52, 25]) {
         if thin.takes() {
             let (w, h) = if (p + q0 + chroma) % 2 == 0 { (2, 1) } else { (1, 2) };
             let mut q = blocky(part, Call::Whole, w, h, (p * 53 + q0) as u64);
@@ -107,9 +116,42 @@ fn every_pair_of_chroma_qps(s: &mut Session, thin: &mut Thin, part: u8) -> Outco
             q.strengths[32..36].fill(if w == 2 { 3 } else { 0 });
             q.strengths[48..52].fill(if h == 2 { 3 } else { 0 });
             q.qps.copy_from_slice(&[p as u8, q0 as u8]);
-            q.offsets[2] = chroma as i32 - 12;
+            let apart = two * (1 + (p + q0) % 24);
+            q.offsets = [0, 0, offset(chroma), offset((chroma + apart) % 25)];
             s.check("small", &q)?;
         }
+    }
+    Ok(())
+}
+
+/// Every pair of chroma offsets with every QP, in one call or another. The steps grow with the QP, so that
+/// thresholds leave some of them and filter others.
+fn every_pair_of_chroma_offsets(s: &mut Session, thin: &mut Thin, part: u8) -> Outcome {
+    for (qp, u, v, _) in product([52, 25, 25, 1]) {
+        if thin.takes() {
+            let mut q = blocky(part, FILTER_CALLS[(qp + u + v) % 3], 1, 1, 0);
+            let look = Texture { step: 2 + (qp * qp / 50) as i32, noise: 1, base: 128 };
+            make::planes(&mut Rng::new((u * 25 + v) as u64), Structure::of(part), &mut q, look);
+            q.strengths.fill(3);
+            q.qps.fill(qp as u8);
+            q.marks.fill(0);
+            q.offsets = [0, 0, offset(u), offset(v)];
+            s.check("small", &q)?;
+        }
+    }
+    Ok(())
+}
+
+/// The first and the last number that is taken, those next to them and those of an i32: for each of the four
+/// offsets alone, and for both chroma ones.
+fn every_limit_of_offsets(s: &mut Session, part: u8) -> Outcome {
+    for (of, value, call, _) in product([5, 6, 3, 1]) {
+        let mut q = blocky(part, FILTER_CALLS[call], 1, 1, 6);
+        q.strengths.fill(3);
+        q.marks.fill(0);
+        let own = if of < 4 { of..of + 1 } else { 2..4 };
+        q.offsets[own].fill([-12, 12, -13, 13, i32::MIN, i32::MAX][value]);
+        s.check("small", &q)?;
     }
     Ok(())
 }
@@ -241,4 +283,38 @@ pub fn kinds_picture(part: u8, w: usize, h: usize, kinds: &[usize]) -> Request {
 pub fn product(n: [usize; 4]) -> impl Iterator<Item = (usize, usize, usize, usize)> {
     let [a, b, c, d] = n;
     (0..a * b * c * d).map(move |i| (i / (b * c * d), i / (c * d) % b, i / d % c, i % d))
+}
+
+#[cfg(test)]
+mod tests {
+    use super::*;
+    use crate::mistakes::Mistake;
+    use crate::model::Model;
+
+    /// Whether a part of the set tells.
+    fn tells(set: fn(&mut Session, &mut Thin, u8) -> Outcome, mistake: Option<Mistake>) -> bool {
+        let model = Model::with(mistake);
+        let mut thin = Thin { share: 16, count: 0 };
+        (0..2).any(|part| set(&mut Session::new(&model, false), &mut thin, part).is_err())
+    }
+
+    #[test]
+    fn chroma_offsets_of_the_wrong_plane_are_told() {
+        let wrong = [
+            Mistake::UByOffsetOfV,
+            Mistake::VByOffsetOfU,
+            Mistake::BesideByOffsetOfU,
+            Mistake::ChromaOffsetsExchanged,
+            Mistake::ChromaOffsetsAdded,
+        ];
+        for set in [every_pair_of_chroma_qps, every_pair_of_chroma_offsets] {
+            assert!(!tells(set, None));
+            assert_eq!(wrong.into_iter().find(|mistake| !tells(set, Some(*mistake))), None);
+        }
+        let in_one_call = [Mistake::RowsByOffsetOfU, Mistake::VisitByOffsetOfU, Mistake::FieldByOffsetOfU];
+        assert!(in_one_call.into_iter().all(|mistake| tells(every_pair_of_chroma_offsets, Some(mistake))));
+        for mistake in [Mistake::OffsetOfUUnasked, Mistake::OffsetOfVUnasked] {
+            assert!(tells(|s, _, part| every_limit_of_offsets(s, part), Some(mistake)));
+        }
+    }
 }

@@ -58,13 +58,15 @@ type Damage = fn(&mut Request);
 
 /// What each refusal of a call on two fields of 2 by 2 macroblocks is sure to come of, in the order in which
 /// they are asked.
-const SURE: [(u32, Damage); 11] = [
+const SURE: [(u32, Damage); 13] = [
     (1, |q| q.h = 257),
     (2, |q| (q.x, q.last) = (2, 3)),
     (19, |q| q.part = 3),
     (3, |q| q.v.resize(127, 0)),
     (4, |q| q.qps.resize(5, 0)),
     (6, |q| q.offsets[1] = 13),
+    (6, |q| q.offsets[2] = 13),
+    (6, |q| q.offsets[3] = -13),
     (7, |q| q.t8s[3] = 2),
     (8, |q| q.qps[3] = 52),
     (9, |q| q.strengths[127] = 5),

@@ -47,10 +47,10 @@ impl Subject for Archive {
         let (qps, t8s) = (f10.lend(&mut r.qps, side), f11.lend(&mut r.t8s, side));
         let mut marks = f12.lend(&mut r.marks, side);
 
-        let [a, b, chroma] = r.offsets;
+        let [a, b, chroma_u, chroma_v] = r.offsets;
         let mut picture = Picture {
             size: Size { w: r.w, h: r.h },
-            offsets: Offsets { a, b, chroma },
+            offsets: Offsets { a, b, chroma_u, chroma_v },
             luma: &mut luma,
             u: &mut u,
             v: &mut v,

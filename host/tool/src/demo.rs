@@ -15,7 +15,7 @@ use films::{Drift, Films, ORDERS, PICTURES};
 use std::path::Path;
 
 /// The strongest filter that a stream may ask for: slice_alpha_c0_offset_div2 and slice_beta_offset_div2 6.
-const STRONGEST: Offsets = Offsets { a: 12, b: 12, chroma: 0 };
+const STRONGEST: Offsets = Offsets { a: 12, b: 12, chroma_u: 0, chroma_v: 0 };
 
 /// Returns whether all arrival orders gave the recorder's pictures.
 pub fn run(folder: &Path) -> Result<bool, Trouble> {

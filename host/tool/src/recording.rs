@@ -39,16 +39,22 @@ struct Header {
     size: Size,
     parts: &'static [Part],
     flags: u8,
-    chroma: i32,
+    chroma_u: i32,
+    chroma_v: i32,
+}
+
+impl Header {
+    /// Flag 16 means it, but not where the chroma offsets differ: there it only says that they do.
+    fn no_grids(&self) -> bool {
+        self.flags & FLAG_16 != 0 && self.chroma_u == self.chroma_v
+    }
 }
 
 const LIST_1: u8 = 1;
 const T8: u8 = 2;
 const SLICES: u8 = 4;
 const TABLES: u8 = 8;
-/// Other recorders set it where U and V have offsets of their own, which are not taken here. So where it is
-/// taken it says that there are no grids.
-const NO_GRIDS: u8 = 16;
+const FLAG_16: u8 = 16;
 
 impl Recording {
     /// Reads the parts in the order of FORMAT.md.
@@ -65,12 +71,12 @@ impl Recording {
 
     /// Reads settings and grids of the frame or of one field.
     fn read_settings(&mut self, s: &mut Source, header: &Header, part: Part) -> Result<(), Trouble> {
-        let Header { size, flags, chroma, .. } = *header;
+        let Header { size, flags, chroma_u, chroma_v, .. } = *header;
         let n = size.macroblocks();
-        let offsets = Offsets { a: offset(s, "offset A")?, b: offset(s, "offset B")?, chroma };
+        let offsets = Offsets { a: offset(s, "offset A")?, b: offset(s, "offset B")?, chroma_u, chroma_v };
         let qps = s.checked(n, "the QPs", |b| b <= 51)?;
         let t8s = s.checked(if flags & T8 != 0 { n } else { 0 }, "the 8x8 flags", |b| b <= 1)?;
-        if flags & NO_GRIDS == 0 {
+        if !header.no_grids() {
             self.grids.push(block_grids(s, 16 * n, flags)?);
         }
         let strengths = s.checked(32 * n, "the strengths", |b| b <= 4)?;
@@ -100,21 +106,21 @@ fn header(s: &mut Source) -> Result<Header, Trouble> {
     let depth = s.byte("the depth", |b| b == 8 || b == 10)?;
     let pictures = s.byte("the number of pictures", |b| b == 1 || b == 2)?;
     let flags = s.byte("the flags", |b| b < 32)?;
-    let chroma = offset(s, "the chroma offset of U")?;
-    let of_v = offset(s, "the chroma offset of V")?;
+    let chroma_u = offset(s, "U's chroma offset")?;
+    let chroma_v = offset(s, "V's chroma offset")?;
+    let parts: &[Part] = if pictures == 2 { &FIELDS } else { &[Part::Frame] };
+    let header = Header { size, parts, flags, chroma_u, chroma_v };
     let beyond = [
         (depth != 8, 8, "10-bit samples"),
         (flags & SLICES != 0, 10, "slices"),
         (flags & TABLES != 0, 10, "reference tables"),
-        (chroma != of_v, 11, "a chroma offset for U and another for V"),
-        (flags & NO_GRIDS != 0 && flags & LIST_1 != 0, 10, "grids of list 1 but no others"),
+        (header.no_grids() && flags & LIST_1 != 0, 10, "grids of list 1 but no others"),
     ];
     if let Some((_, at, what)) = beyond.iter().find(|(has, ..)| *has) {
         return Err(s.trouble(start + at, format!("the recording has {what}, which this tool does not take")));
     }
     s.byte("the reserved byte", |b| b == 0)?;
-    let parts: &[Part] = if pictures == 2 { &FIELDS } else { &[Part::Frame] };
-    Ok(Header { size, parts, flags, chroma })
+    Ok(header)
 }
 
 fn offset(s: &mut Source, what: &str) -> Result<i32, Trouble> {

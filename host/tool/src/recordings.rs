@@ -8,7 +8,7 @@ use std::path::{Path, PathBuf};
 pub struct Recordings {
     source: Source,
     read: usize,
-    /// Whether the last one that was read has flag 16.
+    /// Whether the last one that was read has none, by flag 16.
     no_grids: bool,
     /// Nothing is read after trouble.
     stuck: bool,
@@ -106,7 +106,8 @@ mod tests {
         assert!(said(Vec::new()).1.starts_with("x.dbvs: at byte 0: the magic"));
     }
 
-    /// A file in which flag 16 means something else has grids where ours has strengths.
+    /// A file with equal chroma offsets in which flag 16 means something else has grids where ours has
+    /// strengths.
     #[test]
     fn flag_16_is_named_where_something_follows() {
         let (_, what) = said(changed(good(), 10, 16));

@@ -43,7 +43,8 @@ impl Buffers {
     pub fn lend(&mut self) -> (Picture<'_>, Grids<'_>) {
         let Buffers { planes: [luma, u, v], strengths, qps, t8s, marks, inter, nnz, refs, mvs } = self;
         let ([ref0, ref1], [mv0, mv1]) = (refs, mvs);
-        let offsets = Offsets { a: 2, b: -2, chroma: 1 };
+        // two chroma offsets, as a High profile stream may send
+        let offsets = Offsets { a: 2, b: -2, chroma_u: 1, chroma_v: -3 };
         let picture = Picture { size: SIZE, offsets, luma, u, v, strengths, qps, t8s, marks, ..Picture::default() };
         (picture, Grids { inter, nnz, ref0, mv0, ref1, mv1, ..Grids::default() })
     }

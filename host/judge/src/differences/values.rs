@@ -14,26 +14,28 @@ pub const VALUES: &[Row] = &[
         6,
         "offsets A and B 13",
         frame,
-        &[|q| q.offsets = [13, 13, 0]],
+        &[|q| q.offsets = [13, 13, 0, 0]],
         Does(&[("index 43 on luma, 42 on chroma, as with QP 31 and 12", |seen| {
-            seen.as_with(|q| (q.qps[0], q.offsets) = (31, [12, 12, 0]))
+            seen.as_with(|q| (q.qps[0], q.offsets) = (31, [12, 12, 0, 0]))
         })]),
     ),
     row(
         6,
         "offsets A and B 40",
         frame,
-        &[|q| q.offsets = [40, 40, 0]],
+        &[|q| q.offsets = [40, 40, 0, 0]],
         Does(&[("index 51, where the sum is clamped, as with QP 51 and 12", |seen| {
-            seen.as_with(|q| (q.qps[0], q.offsets) = (51, [12, 12, 0]))
+            seen.as_with(|q| (q.qps[0], q.offsets) = (51, [12, 12, 0, 0]))
         })]),
     ),
     row(
         6,
         "offsets A and B 2^31 - 1, QP 0",
         || with(frame(), |q| q.qps[0] = 0),
-        &[|q| q.offsets = [i32::MAX, i32::MAX, 0]],
-        Does(&[("index 51, as with QP 51 and 12", |seen| seen.as_with(|q| (q.qps[0], q.offsets) = (51, [12, 12, 0])))]),
+        &[|q| q.offsets = [i32::MAX, i32::MAX, 0, 0]],
+        Does(&[("index 51, as with QP 51 and 12", |seen| {
+            seen.as_with(|q| (q.qps[0], q.offsets) = (51, [12, 12, 0, 0]))
+        })]),
     ),
     row(
         6,
@@ -51,35 +53,54 @@ pub const VALUES: &[Row] = &[
     ),
     row(
         6,
-        "chroma offset 13, QP 29",
+        "both chroma offsets 13, QP 29",
         || with(frame(), |q| q.qps[0] = 29),
-        &[|q| q.offsets[2] = 13],
+        &[|q| q.offsets[2..].fill(13)],
         Does(&[
             ("U and V as with QP 30 and 12", |seen| {
-                seen.chroma_as(|q| (q.qps[0], q.offsets[2]) = (30, 12)) && !seen.chroma_as(|q| q.offsets[2] = 12)
+                seen.chroma_as(|q| {
+                    q.qps[0] = 30;
+                    q.offsets[2..].fill(12);
+                }) && !seen.chroma_as(|q| q.offsets[2..].fill(12))
             }),
-            ("luma as with 0", |seen| seen.ended && seen.luma_as(|q| q.offsets[2] = 0) && !seen.luma_stays()),
+            ("luma as with 0", |seen| seen.ended && seen.luma_as(|q| q.offsets[2..].fill(0)) && !seen.luma_stays()),
         ]),
     ),
     row(
         6,
-        "chroma offset 2^31 - 1",
+        "both chroma offsets 2^31 - 1",
         frame,
-        &[|q| q.offsets[2] = i32::MAX],
+        &[|q| q.offsets[2..].fill(i32::MAX)],
         DoesInRelease(&[
-            ("luma as with 0", |seen| seen.luma_as(|q| q.offsets[2] = 0) && !seen.luma_stays()),
+            ("luma as with 0", |seen| seen.luma_as(|q| q.offsets[2..].fill(0)) && !seen.luma_stays()),
             ("U and V stay: the sum wraps, QPC 0", |seen| seen.chroma_stays()),
         ]),
     ),
     row(
         6,
-        "chroma offset -2^31",
+        "both chroma offsets -2^31",
         frame,
-        &[|q| q.offsets[2] = i32::MIN],
+        &[|q| q.offsets[2..].fill(i32::MIN)],
         Does(&[
-            ("luma as with 0", |seen| seen.luma_as(|q| q.offsets[2] = 0) && !seen.luma_stays()),
+            ("luma as with 0", |seen| seen.luma_as(|q| q.offsets[2..].fill(0)) && !seen.luma_stays()),
             ("U and V stay: QPC 0", |seen| seen.ended && seen.chroma_stays()),
         ]),
+    ),
+    row(
+        6,
+        "U's chroma offset alone, or V's, 13, -13, 2^31 - 1 or -2^31",
+        frame,
+        &[
+            |q| q.offsets[2] = 13,
+            |q| q.offsets[3] = 13,
+            |q| q.offsets[2] = -13,
+            |q| q.offsets[3] = -13,
+            |q| q.offsets[2] = i32::MAX,
+            |q| q.offsets[3] = i32::MAX,
+            |q| q.offsets[2] = i32::MIN,
+            |q| q.offsets[3] = i32::MIN,
+        ],
+        CannotBeLent("it has one chroma offset for U and V"),
     ),
     row(7, "an inter byte 2", flagless, &[|q| q.inter[0] = 2], CannotBeLent("its type is bool, without such a value")),
     row(7, "an 8x8 flag 2", frame, &[|q| q.t8s.resize(1, 2)], CannotBeLent("its type is bool, without such a value")),
@@ -106,11 +127,11 @@ pub const VALUES: &[Row] = &[
     row(
         8,
         "QP 52, offsets A and B -1",
-        || with(frame(), |q| q.offsets = [-1, -1, 0]),
+        || with(frame(), |q| q.offsets = [-1, -1, 0, 0]),
         &[|q| q.qps[0] = 52],
         Does(&[
             ("luma not as with QP 51: index 51, not 50", |seen| {
-                seen.luma_as(|q| (q.qps[0], q.offsets) = (51, [0; 3])) && !seen.luma_as(|q| q.qps[0] = 51)
+                seen.luma_as(|q| (q.qps[0], q.offsets) = (51, [0; 4])) && !seen.luma_as(|q| q.qps[0] = 51)
             }),
             ("U and V as with QP 51", |seen| !seen.chroma_stays() && seen.chroma_as(|q| q.qps[0] = 51)),
         ]),

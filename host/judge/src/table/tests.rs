@@ -70,8 +70,11 @@ fn each_check_of_a_visit_in_its_order() {
     assert_eq!(answer(&q), 8, "left");
     q.t8s[4] = 2;
     assert_eq!(answer(&q), 7);
-    q.offsets[2] = 13;
-    assert_eq!(answer(&q), 6);
+    for i in 0..4 {
+        q.offsets = [0; 4];
+        q.offsets[i] = 13;
+        assert_eq!(answer(&q), 6, "each of the four");
+    }
     q.marks.resize(5, 0);
     assert_eq!(answer(&q), 4);
     q.v.resize(0, 0);
@@ -82,6 +85,18 @@ fn each_check_of_a_visit_in_its_order() {
     assert_eq!(answer(&q), 2);
     q.w = 257;
     assert_eq!(answer(&q), 1);
+}
+
+#[test]
+fn each_offset_is_12_at_most_either_way() {
+    for (call, i) in FILTER_CALLS.into_iter().flat_map(|call| (0..4).map(move |i| (call, i))) {
+        let values = [i32::MIN, -13, -12, 12, 13, i32::MAX];
+        let answers = values.map(|value| after(visit(), |q| (q.call, q.offsets[i]) = (call, value)));
+        assert_eq!(answers, [6, 6, 0, 0, 6, 6]);
+    }
+    for call in STRENGTH_CALLS {
+        assert_eq!(after(strengths(call), |q| q.offsets = [13; 4]), 0, "it takes none");
+    }
 }
 
 #[test]

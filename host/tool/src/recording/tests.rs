@@ -43,7 +43,8 @@ pub fn parse(bytes: &[u8]) -> Result<Recording, String> {
 #[test]
 fn reads_what_is_there() {
     let r = parse(&good()).expect("a good file");
-    assert_eq!((r.parts(), r.settings[0].offsets), (vec![Part::Frame], Offsets { a: 2, b: -2, chroma: -1 }));
+    let offsets = Offsets { a: 2, b: -2, chroma_u: -1, chroma_v: -1 };
+    assert_eq!((r.parts(), r.settings[0].offsets), (vec![Part::Frame], offsets));
     assert_eq!((r.grids[0].ref0[15], r.grids[0].mv0[31], r.grids[0].ref1.len()), (-1, -255, 0));
     assert_eq!((r.before.luma.len(), r.before.height()), (256, 16));
 }
@@ -69,9 +70,35 @@ fn without_grids_the_strengths_follow_the_qps() {
     }
 }
 
+/// The same recording with U's chroma offset -2 and V's 9.
+fn two_offsets(recording: Vec<u8>) -> Vec<u8> {
+    changed(changed(recording, 11, 0xFE), 12, 9)
+}
+
+#[test]
+fn where_the_chroma_offsets_differ_there_are_grids() {
+    for (b, pictures) in [(good(), 1), (fields(), 2)] {
+        for flags in [0, 16] {
+            let r = parse(&changed(two_offsets(b.clone()), 10, flags)).expect("a good file");
+            assert_eq!((r.settings.len(), r.grids.len()), (pictures, pictures));
+            assert!(r.settings.iter().all(|s| (s.offsets.chroma_u, s.offsets.chroma_v) == (-2, 9)));
+        }
+    }
+}
+
+/// With flag 16 too, which beside equal offsets would leave list 0 out and be refused.
+#[test]
+fn where_the_chroma_offsets_differ_there_may_be_list_1() {
+    let mut b = changed(two_offsets(good()), 10, 17);
+    let strengths = b.len() - 32;
+    b.splice(strengths..strengths, [3; 16 * 5]);
+    let r = parse(&b).expect("a good file");
+    assert_eq!((r.grids[0].ref1.len(), r.grids[0].ref1[15], r.grids[0].mv1[31]), (16, 3, 0x0303));
+}
+
 #[test]
 fn every_cut_is_noticed() {
-    for whole in [good(), fields()] {
+    for whole in [good(), fields(), changed(two_offsets(good()), 10, 16)] {
         for end in 0..whole.len() {
             let what = parse(&whole[..end]).err().unwrap_or_else(|| panic!("cut at {end} was taken"));
             assert!(what.starts_with("x.dbv: at byte "), "{what}");
@@ -91,7 +118,8 @@ fn damage_is_named_with_its_place() {
     assert!(damaged(8, 9).contains("at byte 8: the depth: 9"));
     assert!(damaged(9, 3).contains("at byte 9: the number of pictures: 3"));
     assert!(damaged(10, 32).contains("at byte 10: the flags: 32"));
-    assert!(damaged(12, 13).contains("at byte 12: the chroma offset of V: 13"));
+    assert!(damaged(11, 13).contains("at byte 11: U's chroma offset: 13"));
+    assert!(damaged(12, 13).contains("at byte 12: V's chroma offset: 13"));
     assert!(damaged(13, 1).contains("at byte 13: the reserved byte"));
     assert!(damaged(14 + 768, 13).contains("at byte 782: offset A: 13"));
     assert!(damaged(784, 52).contains("at byte 784: the QPs: 52"));
@@ -106,7 +134,6 @@ fn what_the_tool_does_not_take_is_named() {
     assert!(damaged(8, 10).contains("at byte 8: the recording has 10-bit samples"));
     assert!(damaged(10, 4).contains("at byte 10: the recording has slices"));
     assert!(damaged(10, 8).contains("at byte 10: the recording has reference tables"));
-    assert!(damaged(11, 0).contains("at byte 11: the recording has a chroma offset for U and another for V"));
     assert!(damaged(10, 17).contains("at byte 10: the recording has grids of list 1 but no others"));
 }
 

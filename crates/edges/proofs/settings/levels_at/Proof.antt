@@ -26,7 +26,7 @@ returns c =
     let qp = result w16 (q .qp-of .ok) (q .qp-of .ensures) in
     let left = result w16 (c .before .before .qp-before .ok) (c .before .before .qp-before .ensures) in
     let above = result w16 (c .before .qp-before2 .ok) (c .before .qp-before2 .ensures) in
-    c .of-planes .ensures ∙ (λ i. levelsOf eight (qp i) (left i) (above i) (o .a) (o .b) (o .chroma) (o .chroma))
+    c .of-planes .ensures ∙ (λ i. levelsOf eight (qp i) (left i) (above i) (o .a) (o .b) (o .«chroma_u») (o .«chroma_v»))
 
 pub levels-at-spec : {M : Type 1} → statement M
 levels-at-spec =

@@ -1,0 +1,44 @@
+-- As before: with equal chroma offsets a visit, and so any number of them, is what it was when one served U
+-- and V. Assumes nothing.
+use mathlib.Core.Path.{_≡_}
+use mathlib.Core.Bool.{not}
+use Prim.Native.Nat.{ℕ, _*_}
+use lib.Dec.{eqb}
+use lib.ListN.{length}
+use Rattle.laws.specs.Refusal.{refusal}
+use Rattle.edges.specs.Fields.{onPart}
+use Rattle.edges.specs.Picture.{Planes, stepOf}
+use Rattle.sizes.specs.Sizes.{outsideOf}
+use Rattle.sizes.specs.declared.Part.{Part}
+use Rattle.pictures.specs.Checks.{Lent}
+use Rattle.pictures.proofs.EqualOffsets.{oneHeld, oneChecks, equal-lent, equal-checks}
+use Rattle.visits.specs.Checks.{visitReads, earlyIn}
+use Rattle.visits.specs.Promise.{stepIn, visitIn, VisitOutcome}
+use Rattle.visits.specs.Visit.{At, State, VisitOutcomeOf, visit}
+
+module _ (part : Part) (d : Lent) where
+  -- with one chroma offset, U's: the macroblock filtered, and the checks before 13
+  abbrev pub oneStep : ℕ → Planes → Planes
+  oneStep i = onPart part (d .size) (stepOf (oneHeld d (d .offsets .«chroma_u»)) i)
+
+  abbrev pub oneEarly : State Planes → At → ℕ
+  oneEarly s r =
+      refusal (oneChecks d (d .offsets .«chroma_u») part (length (s .0 .luma)) (length (s .0 .u)) (length (s .0 .v)) (outsideOf (d .size) (r .0) (r .1))
+      (not (eqb (length (s .1)) (d .size .w * d .size .h))) (visitReads (d .size .w) (d .strengths) (d .qps) (d .t8s) (s .1) r))
+
+  module _ (e : d .offsets .«chroma_u» ≡ d .offsets .«chroma_v») where
+    equal-step : stepIn part d ≡ oneStep
+    equal-step = λ i k. onPart part (d .size) (stepOf (equal-lent d e i) k)
+
+    equal-early : earlyIn part d ≡ oneEarly
+    unfolding earlyIn
+    equal-early = λ i s r.
+        refusal (equal-checks d e part (length (s .0 .luma)) (length (s .0 .u)) (length (s .0 .v)) (outsideOf (d .size) (r .0) (r .1))
+        (not (eqb (length (s .1)) (d .size .w * d .size .h))) (visitReads (d .size .w) (d .strengths) (d .qps) (d .t8s) (s .1) r) i)
+
+    -- what a call promises, and the visit that replays and demand 3 speak of
+    pub equal-outcome-before : VisitOutcome part d ≡ VisitOutcomeOf (d .size .w) oneStep oneEarly
+    equal-outcome-before = λ i. VisitOutcomeOf (d .size .w) (equal-step i) (equal-early i)
+
+    pub equal-visit-before : visitIn part d ≡ visit (d .size .w) oneStep oneEarly
+    equal-visit-before = λ i. visit (d .size .w) (equal-step i) (equal-early i)

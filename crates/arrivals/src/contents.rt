@@ -140,6 +140,6 @@ pub fn offsets_of(picture: u8) -> Offsets {
         a: -1,
         b: 4,
         chroma_u: -2,
-        chroma_v: -2,
+        chroma_v: 3,
     }
 }

@@ -209,12 +209,12 @@ fn one_wide() -> Request {
     r
 }
 
-/// Two fields of 2 by 2 macroblocks, over planes for so many of them: the top one is lent what `mixed` is, the
-/// bottom one strengths, QPs, flags and offsets of its own.
+/// Two fields of 2 by 2 macroblocks, over planes for so many of them: the top one is lent what `mixed` is,
+/// the bottom one strengths, QPs, flags and offsets of its own, two chroma offsets among them.
 fn fields(count: usize) -> [Request; 2] {
     let Request { luma, u, v, .. } = varied(2, 2 * count);
     let top = Request { part: 1, luma, u, v, ..mixed() };
-    let mut bottom = Request { part: 2, offsets: [-1, 4, -2, -2], ..top.clone() };
+    let mut bottom = Request { part: 2, offsets: [-1, 4, -2, 3], ..top.clone() };
     bottom.strengths = (0..128).map(|i| ((i * 2 + i / 16) % 5) as u8).collect::<Vec<u8>>().into();
     bottom.qps = vec![44, 33, 38, 35].into();
     bottom.t8s = vec![1, 0, 0, 1].into();

@@ -4,7 +4,7 @@
 use mathlib.Core.Path.{_≡_, sym, refl}
 use mathlib.Core.Bool.{true}
 use mathlib.Core.List.{List}
-use Prim.Native.Nat.{ℕ, _+_, _-_, _<_}
+use Prim.Native.Nat.{ℕ, _+_, _-_}
 use lib.IntN.{ℤ, pos}
 use Rattle.laws.specs.Loop.{span}
 use Rattle.laws.proofs.Loops.{upTo-both}

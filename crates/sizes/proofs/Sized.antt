@@ -1,5 +1,5 @@
--- What checks 1 and 3 say when they do not apply, and how large the planes of a part's frame are then. Assumes
--- nothing.
+-- What checks 1 and 3 say when they do not apply, and how large the planes of a part's frame are then.
+-- Assumes nothing.
 use mathlib.Core.Path.{_≡_}
 use mathlib.Core.Bool.{false, not, _||_}
 use Prim.Native.Nat.{ℕ, _*_, _≤_, _<_}

@@ -1,5 +1,5 @@
--- Across an edge that is no border there is a block p: its macroblock, that one's flag, and what is read of it.
--- Assumes nothing.
+-- Across an edge that is no border there is a block p: its macroblock, that one's flag, and what is read of
+-- it. Assumes nothing.
 use mathlib.Core.Path.{_≡_, refl, sym, ap, subst, _∙_}
 use mathlib.Core.Bool.{Bool, true, false, cond, _&&_}
 use Prim.Native.Nat.{ℕ, zero, suc, _+_, _-_, _*_, _/_, _%_, _≤_, _<_}

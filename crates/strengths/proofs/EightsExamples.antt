@@ -19,9 +19,9 @@ use Rattle.strengths.proofs.Examples.{oneMb, intra, high, wideTwo, twoI
 block-13 : (macroblockOf 2 13 ≡ 1) × (inEight 2 13 0 0 ∷ inEight 2 13 0 1 ∷ inEight 2 13 1 0 ∷ inEight 2 13 1 1 ∷ [] ≡ 4 ∷ 5 ∷ 12 ∷ 13 ∷ [])
 block-13 = (refl, refl)
 
--- a lone inter macroblock of one motion whose first block has a count: vertical edges 1 and 2, then horizontal
--- ones. It counts for the upper left 8x8 block, so the first half of both edges 2 has 2. Without the flag both
--- edges 1 have it beside that block
+-- a lone inter macroblock of one motion whose first block has a count: vertical edges 1 and 2, then
+-- horizontal ones. It counts for the upper left 8x8 block, so the first half of both edges 2 has 2. Without
+-- the flag both edges 1 have it beside that block
 abbrev firstCount : Grids
 firstCount = grids (replicate 16 1) (1 ∷ replicate 15 0) (replicate 16 (pos 0)) (replicate 32 (pos 0)) [] []
 

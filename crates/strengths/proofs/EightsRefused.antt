@@ -1,4 +1,5 @@
--- Wrong calls under 8x8 transforms, each shown to break the promise on one macroblock or two. Assumes nothing.
+-- Wrong calls under 8x8 transforms, each shown to break the promise on one macroblock or two. Assumes
+-- nothing.
 use mathlib.Core.Path.{_≡_, refl, sym, _∙_}
 use mathlib.Core.Bool.{Bool, true, false, cond, _||_}
 use mathlib.Core.List.{List, [], _∷_, replicate}

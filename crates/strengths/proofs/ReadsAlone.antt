@@ -1,5 +1,5 @@
--- A strength call looks at nothing but what docs/RULES.md, "What each call reads", says: two inputs that agree
--- on that have one outcome. Assumes nothing.
+-- A strength call looks at nothing but what docs/RULES.md, "What each call reads", says: two inputs that
+-- agree on that have one outcome. Assumes nothing.
 use mathlib.Core.Path.{_≡_, refl, sym, ap, _∙_}
 use mathlib.Core.Bool.{Bool, false, cond, not, _&&_, _||_}
 use mathlib.Core.List.{List, [], _∷_, _++_}
@@ -80,8 +80,8 @@ module _ (size : Size) (field : Bool) {t8s t8s′ : List ℕ} {g g′ : Grids} (
   flags-reads r same =
       reads-alone size field (r .x) (r .y) same (λ j. (r .flat && not (flat-same same j)) || (r .uniform && not (uniform-same same j))) s n s′
 
--- ---- so where none of the three flags that are read is set, whatever the others are, a call promises what it
--- promised before it was lent any (`OwnCall`)
+-- ---- so where none of the three flags that are read is set, whatever the others are, a call promises what
+-- it promised before it was lent any (`OwnCall`)
 zeros : (n i : ℕ) → _≡_ {A = ℕ} (getD (replicate n 0) i 0) 0
 zeros zero i = refl
 zeros (suc n) zero = refl

@@ -1,5 +1,5 @@
-// Which blocks have coefficients. Under an 8x8 transform that is asked of the 8x8 block, so strengths depend on
-// the flags of the macroblock and of its left and upper neighbours.
+// Which blocks have coefficients. Under an 8x8 transform that is asked of the 8x8 block, so strengths depend
+// on the flags of the macroblock and of its left and upper neighbours.
 ghost use mathlib.Core.Path.{_≡_};
 ghost use mathlib.Core.Bool.{true, false, _&&_};
 ghost use Prim.Native.Nat.{_+_, _-_, _<_, _≤_};

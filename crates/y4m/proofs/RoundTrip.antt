@@ -1,4 +1,5 @@
--- What is written is read: the same size and the same planes, whatever follows in the stream. Assumes nothing.
+-- What is written is read: the same size and the same planes, whatever follows in the stream. Assumes
+-- nothing.
 use Prim.Native.Nat.{ℕ, suc, _+_, _*_, _-_, _/_, _%_}
 use mathlib.Core.Path.{_≡_, sym, ap, _∙_, subst}
 use mathlib.Core.Bool.{Bool, true, false, not, _&&_, _||_}

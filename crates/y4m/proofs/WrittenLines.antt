@@ -1,5 +1,5 @@
--- The two lines of a written stream, taken apart again: the words of its header and what its tags say. Assumes
--- nothing.
+-- The two lines of a written stream, taken apart again: the words of its header and what its tags say.
+-- Assumes nothing.
 use Prim.Native.Nat.{ℕ, _<_}
 use mathlib.Core.Path.{_≡_, refl, sym, ap, _∙_}
 use mathlib.Core.Bool.{Bool, true, false, not, _&&_}

@@ -2,8 +2,8 @@
 //!
 //! Without a mistake it is what a field is held to, a strength call that reads an 8x8 flag which is set, and
 //! a filtering call with two chroma offsets; elsewhere it is a second opinion beside the Rust original:
-//! `judge bounded` and `judge mutants` ask that the two agree. It finds the lines of a field where they lie in
-//! the frame; what the original is asked of a field (original.rs) has them taken out.
+//! `judge bounded` and `judge mutants` ask that the two agree. It finds the lines of a field where they lie
+//! in the frame; what the original is asked of a field (original.rs) has them taken out.
 
 use crate::mistakes::Mistake;
 use crate::request::{Call, Request};

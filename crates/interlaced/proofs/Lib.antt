@@ -7,6 +7,7 @@ pub mod FieldsDemand3
 pub mod Finished
 pub mod TwoWholes
 pub mod ByContracts
+pub mod EqualOffsets
 pub mod LateFields
 pub mod Examples
 pub mod Refused

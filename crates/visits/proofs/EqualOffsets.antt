@@ -1,7 +1,8 @@
--- As before: with equal chroma offsets a visit, and so any number of them, is what it was when one served U
--- and V. Assumes nothing.
-use mathlib.Core.Path.{_≡_}
-use mathlib.Core.Bool.{not}
+-- As before: with equal chroma offsets a visit, and so any list of them, is what it was when one served U and
+-- V. Assumes nothing.
+use mathlib.Core.Path.{_≡_, _∙_}
+use mathlib.Core.Bool.{cond, not}
+use mathlib.Core.List.{List}
 use Prim.Native.Nat.{ℕ, _*_}
 use lib.Dec.{eqb}
 use lib.ListN.{length}
@@ -13,8 +14,8 @@ use Rattle.sizes.specs.declared.Part.{Part}
 use Rattle.pictures.specs.Checks.{Lent}
 use Rattle.pictures.proofs.EqualOffsets.{oneHeld, oneChecks, equal-lent, equal-checks}
 use Rattle.visits.specs.Checks.{visitReads, earlyIn}
-use Rattle.visits.specs.Promise.{stepIn, visitIn, VisitOutcome}
-use Rattle.visits.specs.Visit.{At, State, VisitOutcomeOf, visit}
+use Rattle.visits.specs.Promise.{stepIn, visitIn, VisitOutcome, requests, uneven, ReplayOutcome}
+use Rattle.visits.specs.Visit.{At, State, Call, VisitOutcomeOf, visit, run, answers}
 
 module _ (part : Part) (d : Lent) where
   -- with one chroma offset, U's: the macroblock filtered, and the checks before 13
@@ -25,6 +26,9 @@ module _ (part : Part) (d : Lent) where
   oneEarly s r =
       refusal (oneChecks d (d .offsets .«chroma_u») part (length (s .0 .luma)) (length (s .0 .u)) (length (s .0 .v)) (outsideOf (d .size) (r .0) (r .1))
       (not (eqb (length (s .1)) (d .size .w * d .size .h))) (visitReads (d .size .w) (d .strengths) (d .qps) (d .t8s) (s .1) r))
+
+  abbrev pub oneVisit : Call ℕ Planes
+  oneVisit = visit (d .size .w) oneStep oneEarly
 
   module _ (e : d .offsets .«chroma_u» ≡ d .offsets .«chroma_v») where
     equal-step : stepIn part d ≡ oneStep
@@ -40,5 +44,16 @@ module _ (part : Part) (d : Lent) where
     pub equal-outcome-before : VisitOutcome part d ≡ VisitOutcomeOf (d .size .w) oneStep oneEarly
     equal-outcome-before = λ i. VisitOutcomeOf (d .size .w) (equal-step i) (equal-early i)
 
-    pub equal-visit-before : visitIn part d ≡ visit (d .size .w) oneStep oneEarly
+    pub equal-visit-before : visitIn part d ≡ oneVisit
     equal-visit-before = λ i. visit (d .size .w) (equal-step i) (equal-early i)
+
+    -- requests replayed
+    pub equal-replay-before : (xs ys : List ℕ) (s : State Planes) (out : List ℕ) {n : ℕ} {t : State Planes} {out′ : List ℕ} → ReplayOutcome part d xs ys s out n t out′
+        → (n ≡ cond (uneven xs ys out) 4 0)
+        × (t ≡ cond (uneven xs ys out) s (run oneVisit (requests xs ys) s))
+        × (out′ ≡ cond (uneven xs ys out) out (answers oneVisit (requests xs ys) s))
+    equal-replay-before xs ys s out r = (
+      r .says,
+      r .leaves ∙ (λ i. cond (uneven xs ys out) s (run (equal-visit-before i) (requests xs ys) s)),
+      r .writes ∙ (λ i. cond (uneven xs ys out) out (answers (equal-visit-before i) (requests xs ys) s)),
+    )

@@ -1,5 +1,5 @@
 -- The definitions at the values that they had first: the mode of frames, and a call that is told it is no
--- field; a reference's own number. BeforeFlags has those of 8x8 flags. A request that widens one of them
+-- field; a reference's own number. BeforeFlags has those of 8x8 flags. A change that widens one of them
 -- keeps these laws at the neutral value. Assumes nothing.
 use mathlib.Core.Path.{_≡_, refl, sym, ap, _∙_}
 use mathlib.Core.Bool.{Bool, true, false, cond, _&&_, _||_}

@@ -1,71 +1,78 @@
--- The comparison by the number of used references: what it comes to with none, one and two on each side.
--- Assumes nothing.
-use mathlib.Core.Path.{_≡_, refl, sym, subst}
-use mathlib.Core.Bool.{Bool, true, false, not, _||_, and-true, or-self, or-true}
-use mathlib.Core.List.{List, [], _∷_, reverse}
-use mathlib.Core.Logic.{⊎-elim}
+-- The comparison list by list: the motion of two blocks differs where what their lists hold does, in order
+-- and crossed. Assumes nothing.
+use mathlib.Core.Path.{_≡_, refl, sym, ap, _∙_}
+use mathlib.Core.Bool.{Bool, true, false, not, cond, _&&_, _||_, and-true, or-false, or-true, true≢false, false≢true}
+use mathlib.Core.List.{List, [], _∷_, _++_}
 use Prim.Native.Nat.{ℕ}
-use borrow.Author.Tests.{eq-eqb, ne-eqb}
 use lib.Dec.{T}
-use lib.IntN.{ℤ}
-use lib.ListN.{length}
-use mir.Facts.{and-yes, or-yes}
-use Rattle.motion.specs.Motion.{far, mate, inOrder, paired, references, mismatched}
-use Rattle.laws.specs.Equal.{eqZ}
-use Rattle.motion.specs.Sets.{sameSet}
+use lib.IntN.{pos}
+use lib.Signed.{leZ}
+use Rattle.motion.specs.Motion.{motion0, motion1, isUsed, ifUsed, used, mate, mismatched, differ}
+use Rattle.motion.specs.declared.blocks.Blk.{Blk}
 use Rattle.motion.specs.declared.blocks.Motion.{Motion}
-use Rattle.laws.proofs.Equal.{eqZ-self, eqZ→eq}
+use Rattle.motion.proofs.Pairings.{one-reference, by-one, by-two}
 
--- ---- a pairing that serves has one set of references
-mates-in-order : (v : ℕ) (p q : List Motion) → T (inOrder v p q) → references p ≡ references q
-mates-in-order v [] [] t = refl
-mates-in-order v [] (b ∷ q) t = absurd t
-mates-in-order v (a ∷ p) [] t = absurd t
-mates-in-order v (a ∷ p) (b ∷ q) t =
-    let h = and-yes (mate v a b) (inOrder v p q) t in
-    let r = eqZ→eq (a .reference) (b .reference) (and-yes (eqZ (a .reference) (b .reference)) (not (far v a b)) (h .0) .0) in
-    λ i. r i ∷ mates-in-order v p q (h .1) i
+-- ---- what two lists hold, compared as if it were all
+abbrev pub unlike : ℕ → Motion → Motion → Bool
+unlike v a c = mismatched v (ifUsed a) (ifUsed c)
 
-set-one : (r : ℤ) → T (sameSet (r ∷ []) (r ∷ []))
-set-one r = simp (eqZ-self r) tt
+-- where s and t say whether it is used: one that is not is no mate of one that is
+by-use : (s t m : Bool) → (T m → s ≡ t) → ((s || t) && not m) ≡ cond s (not (t && m)) t
+by-use true true m f = refl
+by-use true false true f = absurd (true≢false (f tt))
+by-use true false false f = refl
+by-use false true true f = absurd (false≢true (f tt))
+by-use false true false f = refl
+by-use false false m f = refl
 
-set-two : (r s : ℤ) → T (sameSet (r ∷ s ∷ []) (r ∷ s ∷ []))
-set-two r s = simp (eqZ-self r, eqZ-self s, or-true) tt
+module _ (v : ℕ) where
+  abbrev held : Bool → Motion → List Motion
+  held s a = cond s (a ∷ []) []
 
-set-swap : (r s : ℤ) → T (sameSet (s ∷ r ∷ []) (r ∷ s ∷ []))
-set-swap r s = simp (eqZ-self r, eqZ-self s, or-true) tt
+  abbrev told : Bool → Bool → Motion → Motion → Bool
+  told s t a c = cond s (not (t && mate v a c)) t
 
--- q's references make one set with their own, in order or crossed
-abbrev Whole : List Motion → Type 0
-Whole q = T (sameSet (references q) (references q)) × T (sameSet (references (reverse q)) (references q))
+  told-is : (s t : Bool) (a c : Motion) → told s t a c ≡ mismatched v (held s a) (held t c)
+  unfolding mismatched
+  told-is true true a c = by-one v a c
+  told-is true false a c = refl
+  told-is false true a c = refl
+  told-is false false a c = refl
 
-paired-set : (v : ℕ) (p q : List Motion) → Whole q → T (paired v p q) → T (sameSet (references p) (references q))
-paired-set v p q w t = ⊎-elim (λ h. by-order q h (w .0)) (λ h. by-order (reverse q) h (w .1)) (or-yes (inOrder v p q) (inOrder v p (reverse q)) t)
-  where
-    by-order : (r : List Motion) → T (inOrder v p r) → T (sameSet (references r) (references q)) → T (sameSet (references p) (references q))
-    by-order r h u = subst (λ (k : List ℤ). T (sameSet k (references q))) (sym (mates-in-order v p r h)) u
+  mates-used : (a c : Motion) → T (mate v a c) → isUsed a ≡ isUsed c
+  mates-used a c t = ap (leZ (pos 0)) (one-reference v a c t)
 
--- ---- so with equal numbers the pairings decide: a test that passes only where another does makes that one
--- needless
-tells : (s t : Bool) → (T t → T s) → not t ≡ (not s || not t)
-tells true t f = refl
-tells false true f = absurd (f tt)
-tells false false f = refl
+  pub by-list : (a c : Motion) → ((isUsed a || isUsed c) && not (mate v a c)) ≡ unlike v a c
+  by-list a c = by-use (isUsed a) (isUsed c) (mate v a c) (mates-used a c) ∙ told-is (isUsed a) (isUsed c) a c
 
-by-pairing : (v : ℕ) (p q : List Motion) → length p ≡ length q → Whole q → not (paired v p q) ≡ mismatched v p q
-unfolding mismatched
-by-pairing v p q e w = simp (eq-eqb (length p) (length q) e) (tells (sameSet (references p) (references q)) (paired v p q) (paired-set v p q w))
+  -- ---- two lists on each side: they differ in order, and crossed
+  told-both : (s t u w : Bool) (a b c d : Motion)
+      → ((told s u a c || told t w b d) && (told s w a d || told t u b c)) ≡ mismatched v (held s a ++ held t b) (held u c ++ held w d)
+  unfolding mismatched
+  told-both true true true true a b c d = by-two v a b c d
+  told-both true true true false a b c d = simp or-true
+  told-both true true false true a b c d = simp or-true
+  told-both true true false false a b c d = refl
+  told-both true false true true a b c d = simp or-true
+  told-both true false true false a b c d = and-true (not (mate v a c) || false) ∙ or-false (not (mate v a c)) ∙ by-one v a c
+  told-both true false false true a b c d = or-false (not (mate v a d)) ∙ by-one v a d
+  told-both true false false false a b c d = refl
+  told-both false true true true a b c d = refl
+  told-both false true true false a b c d = by-one v b c
+  told-both false true false true a b c d = and-true (not (mate v b d)) ∙ by-one v b d
+  told-both false true false false a b c d = refl
+  told-both false false true true a b c d = refl
+  told-both false false true false a b c d = refl
+  told-both false false false true a b c d = refl
+  told-both false false false false a b c d = refl
 
--- ---- numbers that differ; none, one and two each
-pub by-number : (v : ℕ) (p q : List Motion) → (length p ≡ length q → ⊥) → true ≡ mismatched v p q
-unfolding mismatched
-by-number v p q h = sym (simp (ne-eqb (length p) (length q) h))
-
-pub by-none : (v : ℕ) → false ≡ mismatched v [] []
-by-none v = by-pairing v [] [] refl (tt, tt)
-
-pub by-one : (v : ℕ) (a c : Motion) → not (mate v a c) ≡ mismatched v (a ∷ []) (c ∷ [])
-by-one v a c = simp (and-true, or-self) at (by-pairing v (a ∷ []) (c ∷ []) refl (set-one (c .reference), set-one (c .reference)))
-
-pub by-two : (v : ℕ) (a b c d : Motion) → not (paired v (a ∷ b ∷ []) (c ∷ d ∷ [])) ≡ mismatched v (a ∷ b ∷ []) (c ∷ d ∷ [])
-by-two v a b c d = by-pairing v (a ∷ b ∷ []) (c ∷ d ∷ []) refl (set-two (c .reference) (d .reference), set-swap (c .reference) (d .reference))
+  pub by-lists : (p q : Blk)
+      → ((unlike v (motion0 p) (motion0 q) || unlike v (motion1 p) (motion1 q)) && (unlike v (motion0 p) (motion1 q) || unlike v (motion1 p) (motion0 q)))
+      ≡ differ v p q
+  unfolding differ used
+  by-lists p q =
+      (λ i. (is (motion0 p) (motion0 q) i || is (motion1 p) (motion1 q) i) && (is (motion0 p) (motion1 q) i || is (motion1 p) (motion0 q) i))
+      ∙ told-both (isUsed (motion0 p)) (isUsed (motion1 p)) (isUsed (motion0 q)) (isUsed (motion1 q)) (motion0 p) (motion1 p) (motion0 q) (motion1 q)
+    where
+      is : (a c : Motion) → unlike v a c ≡ told (isUsed a) (isUsed c) a c
+      is a c = sym (told-is (isUsed a) (isUsed c) a c)

@@ -1,7 +1,7 @@
 -- Laws of the comparison and of the grids, for the crates above. Assumes nothing.
 use mathlib.Core.Path.{_≡_, refl, sym, ap, subst, _∙_}
-use mathlib.Core.Bool.{Bool, true, false, not, cond, _&&_, _||_, and-true, and-comm}
-use mathlib.Core.List.{List, [], _∷_, _++_}
+use mathlib.Core.Bool.{Bool, true, false, not, cond, _&&_, _||_, and-false, or-comm}
+use mathlib.Core.List.{List, _++_}
 use Prim.Native.Nat.{ℕ, _≤_}
 use native.Mathlib.Omega.{arith}
 use lib.Dec.{T, lit≤}
@@ -9,27 +9,23 @@ use lib.IntN.{ℤ}
 use mir.Facts.{and-yes}
 use Rattle.laws.proofs.Cond.{cond-both}
 use Rattle.motion.specs.Inner.{Hold}
-use Rattle.motion.specs.Motion.{motion0, motion1, ifUsed, used, mate, paired, mismatched, differ, interStrength, equalMotion, sameMotion}
+use Rattle.motion.specs.Motion.{motion0, motion1, isUsed, ifUsed, used, mate, mismatched, differ, interStrength, equalMotion, sameMotion}
 use Rattle.laws.specs.Equal.{eqZ}
 use Rattle.motion.specs.declared.blocks.Blk.{Blk}
 use Rattle.motion.specs.declared.blocks.Motion.{Motion}
-use Rattle.motion.proofs.Differ.{by-none, by-one, by-two}
+use Rattle.motion.proofs.Differ.{unlike, by-list, by-lists}
 use Rattle.laws.proofs.Equal.{eqZ-self, eqZ→eq, eqZ-comm}
 use Rattle.motion.proofs.Far.{outside-self, outside-comm}
-use Rattle.motion.proofs.UsedList.{AtMostTwo, none, one, two, used-short}
 
 -- ---- a block and itself
 mate-self : (v : ℕ) (a : Motion) → mate v a a ≡ true
 mate-self v a = simp (eqZ-self (a .reference), outside-self 3 (a .x), outside-self v (a .y))
 
-self : (v : ℕ) {l : List Motion} → AtMostTwo l → mismatched v l l ≡ false
-self v none = sym (by-none v)
-self v (one a) = sym (by-one v a a) ∙ ap not (mate-self v a)
-self v (two a b) = sym (by-two v a b a b) ∙ simp (mate-self v a, mate-self v b)
+unlike-self : (v : ℕ) (a : Motion) → unlike v a a ≡ false
+unlike-self v a = sym (by-list v a a) ∙ simp (mate-self v a, and-false)
 
 pub differ-self : (v : ℕ) (p : Blk) → differ v p p ≡ false
-unfolding differ
-differ-self v p = self v (used-short p)
+differ-self v p = sym (by-lists v p p) ∙ simp (unlike-self v (motion0 p), unlike-self v (motion1 p))
 
 -- ---- the same motion
 equal→eq : (a b : Motion) → T (equalMotion a b) → a ≡ b
@@ -50,7 +46,7 @@ same-used p q t =
 
 pub differ-same : (v : ℕ) (p q : Blk) → T (sameMotion p q) → differ v p q ≡ false
 unfolding differ
-differ-same v p q t = ap (mismatched v (used p)) (sym (same-used p q t)) ∙ self v (used-short p)
+differ-same v p q t = ap (mismatched v (used p)) (sym (same-used p q t)) ∙ differ-self v p
 
 -- two blocks of the same motion as a third
 equal-self : (a : Motion) → equalMotion a a ≡ true
@@ -70,26 +66,19 @@ same-join p q f s t =
 mate-comm : (v : ℕ) (a b : Motion) → mate v a b ≡ mate v b a
 mate-comm v a b = λ i. eqZ-comm (a .reference) (b .reference) i && not (outside-comm 3 (a .x) (b .x) i || outside-comm v (a .y) (b .y) i)
 
-paired-comm : (v : ℕ) (a b c d : Motion) → paired v (a ∷ b ∷ []) (c ∷ d ∷ []) ≡ paired v (c ∷ d ∷ []) (a ∷ b ∷ [])
-paired-comm v a b c d =
-    (λ i. mate-comm v a c i && (mate-comm v b d i && true) || mate-comm v a d i && (mate-comm v b c i && true))
-    ∙ ap (λ (t : Bool). mate v c a && (mate v d b && true) || t) (simp and-true (and-comm (mate v d a) (mate v c b)))
-
-turned : (v : ℕ) {l r : List Motion} → AtMostTwo l → AtMostTwo r → mismatched v l r ≡ mismatched v r l
-unfolding mismatched
-turned v none none = refl
-turned v none (one c) = refl
-turned v none (two c d) = refl
-turned v (one a) none = refl
-turned v (one a) (one c) = sym (by-one v a c) ∙ ap not (mate-comm v a c) ∙ by-one v c a
-turned v (one a) (two c d) = refl
-turned v (two a b) none = refl
-turned v (two a b) (one c) = refl
-turned v (two a b) (two c d) = sym (by-two v a b c d) ∙ ap not (paired-comm v a b c d) ∙ by-two v c d a b
+unlike-comm : (v : ℕ) (a b : Motion) → unlike v a b ≡ unlike v b a
+unlike-comm v a b =
+    sym (by-list v a b) ∙ (λ i. or-comm (isUsed a) (isUsed b) i && not (mate-comm v a b i)) ∙ by-list v b a
 
 pub differ-comm : (v : ℕ) (p q : Blk) → differ v p q ≡ differ v q p
-unfolding differ
-differ-comm v p q = turned v (used-short p) (used-short q)
+differ-comm v p q =
+    sym (by-lists v p q)
+    ∙ (λ i. (turned (motion0 p) (motion0 q) i || turned (motion1 p) (motion1 q) i) && (turned (motion0 p) (motion1 q) i || turned (motion1 p) (motion0 q) i))
+    ∙ ap (λ (t : Bool). (unlike v (motion0 q) (motion0 p) || unlike v (motion1 q) (motion1 p)) && t) (or-comm (unlike v (motion1 q) (motion0 p)) (unlike v (motion0 q) (motion1 p)))
+    ∙ by-lists v q p
+  where
+    turned : (a b : Motion) → unlike v a b ≡ unlike v b a
+    turned = unlike-comm v
 
 -- ---- the strength
 pub strength-le : (v : ℕ) (coded : Bool) (p q : Blk) → interStrength v coded p q ≤ 2

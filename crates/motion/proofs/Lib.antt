@@ -4,5 +4,5 @@ pub mod Far
 pub mod Laws
 pub mod Limits
 pub mod GridParts
+pub mod Pairings
 pub mod Refused
-pub mod UsedList

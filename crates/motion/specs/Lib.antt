@@ -2,6 +2,5 @@ pub mod Cases
 pub mod Far
 pub mod Grids
 pub mod Inner
-pub mod Listed
 pub mod Motion
 pub mod Sets

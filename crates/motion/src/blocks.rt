@@ -2,8 +2,7 @@
 // 8.7.2.1). `vertical` is the most by which near vectors differ vertically: 3 in frames, 1 in fields.
 // Horizontally it is always 3.
 ghost use mathlib.Core.Path.{_≡_};
-ghost use Rattle.motion.specs.Motion.{motion0, motion1, isUsed, used, mate, paired, differ, interStrength, equalMotion, sameMotion};
-ghost use Rattle.motion.specs.Listed.{slotsOf, Listed};
+ghost use Rattle.motion.specs.Motion.{motion0, motion1, isUsed, ifUsed, mate, mismatched, differ, interStrength, equalMotion, sameMotion};
 use crate::vectors::far;
 
 // A 4x4 block: inter or not, and of each list a reference, below 0 for none, and a vector.
@@ -22,13 +21,6 @@ pub struct Motion {
     pub reference: i32,
     pub x: i16,
     pub y: i16,
-}
-
-// The references that a block uses, in the first `count` of two slots.
-struct UsedRefs {
-    count: u8,
-    one: Motion,
-    two: Motion,
 }
 
 // What a block holds of list 0.
@@ -60,28 +52,6 @@ fn is_used(m: Motion) -> bool
     0 <= m.reference
 }
 
-// The small list of what a block uses.
-fn used(b: Blk) -> UsedRefs
-    ensures { λ r. ⌜ Listed r (used b) ⌝ }
-{
-    let one = motion0(b);
-    let two = motion1(b);
-    if is_used(one) {
-        if is_used(two) {
-            return UsedRefs { count: 2, one, two };
-        }
-        return UsedRefs { count: 1, one, two };
-    }
-    if is_used(two) {
-        return UsedRefs {
-            count: 1,
-            one: two,
-            two: one,
-        };
-    }
-    UsedRefs { count: 0, one, two }
-}
-
 // One reference, and near.
 fn mate(vertical: u8, a: Motion, b: Motion) -> bool
     ensures { λ r. ⌜ r ≡ mate vertical a b ⌝ }
@@ -91,31 +61,26 @@ fn mate(vertical: u8, a: Motion, b: Motion) -> bool
     (a.reference == b.reference) & !(far_x | far_y)
 }
 
-// Two references each: a pairing, in order or crossed, serves.
-fn paired(vertical: u8, p: UsedRefs, q: UsedRefs) -> bool
-    ensures { λ r. ⌜ r ≡ paired vertical (slotsOf p) (slotsOf q) ⌝ }
+// What two lists hold, compared as if a block held nothing else. Where neither is used it does not differ.
+fn unlike(vertical: u8, a: Motion, b: Motion) -> bool
+    ensures { λ r. ⌜ r ≡ mismatched vertical (ifUsed a) (ifUsed b) ⌝ }
 {
-    let straight = mate(vertical, p.one, q.one) & mate(vertical, p.two, q.two);
-    let crossed = mate(vertical, p.one, q.two) & mate(vertical, p.two, q.one);
-    straight | crossed
+    (is_used(a) | is_used(b)) & !mate(vertical, a, b)
 }
 
-// Whether the motion of two blocks differs: by the number of references that they use.
+// Whether the motion of two blocks differs: it does list by list, and with the lists crossed. So the used
+// references need not be counted. Where the lists agree in order, nothing more is asked.
 pub fn bs1_tile(vertical: u8, p: Blk, q: Blk) -> bool
     ensures { λ r. ⌜ r ≡ differ vertical p q ⌝ }
 {
-    let a = used(p);
-    let b = used(q);
-    if a.count != b.count {
-        return true;
+    let p0 = motion0(p);
+    let p1 = motion1(p);
+    let q0 = motion0(q);
+    let q1 = motion1(q);
+    if unlike(vertical, p0, q0) | unlike(vertical, p1, q1) {
+        return unlike(vertical, p0, q1) | unlike(vertical, p1, q0);
     }
-    if a.count == 0 {
-        return false;
-    }
-    if a.count == 1 {
-        return !mate(vertical, a.one, b.one);
-    }
-    !paired(vertical, a, b)
+    false
 }
 
 // The strength between two inter blocks, of which `coded` says whether one has coefficients: 2, 1 or 0.

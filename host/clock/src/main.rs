@@ -1,124 +1,51 @@
-//! The clock: whole pictures of 720 by 576 through the archive and through the Rust original.
-//!
-//! Both are optimised builds. Each picture is filtered in every way, one after the other, in turn first; its
-//! planes are copied and strengths converted before the clock starts; the clock is the thread's CPU time,
-//! which other programs on the machine do not add to. What counts is the ratio of two times on the SAME
-//! picture, and its median over all pictures: a machine whose pace drifts during the run moves both times of
-//! a picture and hardly their ratio. The filtered planes are compared as well. A frame as two fields, which
-//! the original cannot filter, is timed beside the original's whole frame, without a bound. So is the
-//! archive's whole picture with two chroma offsets, beside its own with one for both planes.
+//! The clock: the proved archive beside the Rust original, in filtering and in deriving strengths.
 
 mod cpu_time;
-mod picture;
-mod ways;
+mod filtering;
+mod samples;
+mod strengths;
 
-use inputs::{Content, Rng, Texture};
-use picture::{Picture, H, W};
+use deblock::Size;
 use std::process::ExitCode;
-use ways::Way;
 
-/// What is timed, and the most that the whole-picture call may take of the original's time: a tenth to a
-/// sixth above what docs/SPEED.md has for the slower kind of machine, and far below the 1.5 asked for.
-const SUBJECTS: [Subject; 4] = [
-    Subject { name: "intra", content: Content::Intra, look: CODED, bound: 0.30 },
-    Subject { name: "mixed", content: Content::Mixed, look: CODED, bound: 0.34 },
-    Subject { name: "still", content: Content::Still, look: CODED, bound: 0.50 },
-    Subject { name: "noisy", content: Content::Intra, look: NOISY, bound: 0.28 },
-];
-
-/// The most that visits to a whole picture may take of the time of the original's whole-picture call.
-const VISITS_BOUND: f64 = 1.0;
-
-/// Levels of 4x4 blocks up to 4 off either way, as quantising leaves them; and noise, of which no branch can
-/// foresee which lines pass the thresholds. Each picture gets a base of its own.
-const CODED: Texture = Texture { step: 4, noise: 1, base: 0 };
-const NOISY: Texture = Texture { step: 10, noise: 20, base: 0 };
-
-/// The first pictures warm the caches up and do not count.
-const WARM: usize = 4;
-
-struct Subject {
-    name: &'static str,
-    content: Content,
-    look: Texture,
-    bound: f64,
-}
+/// 720 by 576 in macroblocks.
+const W: usize = 45;
+const H: usize = 36;
+const SIZE: Size = Size { w: W, h: H };
 
 const HELP: &str = "clock [PICTURES]: the proved archive against the Rust original on pictures of 720 by 576
 with stored strengths, PICTURES of each content (300 or more; 300 without). Ratios are medians over the
 pictures, each of two times on one picture. Exit status 0: every ratio to the original is within its bound.
 That of two fields, to the original's whole frame of the same samples, has none, nor has that of two chroma
-offsets, to the archive's own whole picture with one.";
+offsets, to the archive's own whole picture with one.
+
+clock strengths [PICTURES]: the three strength calls likewise, on every macroblock of such pictures, PICTURES
+of each content (20 or more; 100 without). They have no bound: the exit status is 0.";
+
+/// What is run, of how many pictures without a word, and of how many at least.
+struct Clock {
+    run: fn(usize) -> ExitCode,
+    usual: usize,
+    least: usize,
+}
+
+const FILTERING: Clock = Clock { run: filtering::clock, usual: 300, least: 300 };
+const STRENGTHS: Clock = Clock { run: strengths::clock, usual: 100, least: 20 };
 
 fn main() -> ExitCode {
     let words: Vec<String> = std::env::args().skip(1).collect();
-    let pictures = match &words[..] {
-        [] => Some(300),
-        [n] => n.parse().ok().filter(|&n: &usize| n >= 300),
+    let (Clock { run, usual, least }, words) = match &words[..] {
+        [first, rest @ ..] if first == "strengths" => (STRENGTHS, rest),
+        all => (FILTERING, all),
+    };
+    let pictures = match words {
+        [] => Some(usual),
+        [n] => n.parse().ok().filter(|&n| n >= least),
         _ => None,
     };
     let Some(pictures) = pictures else {
         eprintln!("{HELP}");
         return ExitCode::from(2);
     };
-    println!("{pictures} pictures of {} by {} of each content, CPU time in microseconds a picture", 16 * W, 16 * H);
-    println!(
-        "                 whole    of the Rust's time, bound   visits, of the Rust's   of the whole's      two fields,"
-    );
-    println!(
-        "          Rust  picture      whole picture           raster   wavefront    raster  wavefront  of the Rust's"
-    );
-    let within = SUBJECTS.map(|subject| subject.clock(pictures)).iter().all(|&within| within);
-    println!("mixed, whole picture, chroma offsets 1 and -1: {:.3} of its time with 0 and 0", two_offsets(pictures));
-    println!("{}", if within { "every ratio within its bound" } else { "a ratio ABOVE its bound" });
-    if within {
-        ExitCode::SUCCESS
-    } else {
-        ExitCode::FAILURE
-    }
-}
-
-impl Subject {
-    /// Times it; whether all is within the bounds.
-    fn clock(&self, pictures: usize) -> bool {
-        let mut r = Rng::new(13 + self.content as u64);
-        let times: Vec<[f64; 5]> =
-            (0..pictures + WARM).map(|i| Picture::new(&mut r, self.content, self.look).times(i)).skip(WARM).collect();
-        let over = |a: Way, b: Way| median(times.iter().map(|t| t[a as usize] / t[b as usize]).collect());
-        let micros = |a: Way| 1e6 * median(times.iter().map(|t| t[a as usize]).collect());
-        let [whole, raster, wavefront] = [Way::Whole, Way::Raster, Way::Wavefront].map(|way| over(way, Way::Original));
-        println!(
-            "{:<6}{:>8.0}{:>9.0}{whole:>12.3}{:>8.2}{raster:>17.3}{wavefront:>12.3}{:>10.2}{:>11.2}{:>15.3}",
-            self.name,
-            micros(Way::Original),
-            micros(Way::Whole),
-            self.bound,
-            over(Way::Raster, Way::Whole),
-            over(Way::Wavefront, Way::Whole),
-            over(Way::Fields, Way::Original),
-        );
-        whole <= self.bound && raster.max(wavefront) <= VISITS_BOUND
-    }
-}
-
-/// The archive's whole picture with two chroma offsets, over that with one: about as much is filtered.
-fn two_offsets(pictures: usize) -> f64 {
-    let mut r = Rng::new(13);
-    let mut times = |turn| Picture::new(&mut r, Content::Mixed, CODED).chroma_times([[1, -1], [0, 0]], turn);
-    median((0..pictures + WARM).map(&mut times).skip(WARM).map(|[two, one]| two / one).collect())
-}
-
-fn median(mut values: Vec<f64>) -> f64 {
-    values.sort_by(f64::total_cmp);
-    values[values.len() / 2]
-}
-
-#[cfg(test)]
-mod tests {
-    /// A pace that drifts a hundredfold moves no ratio, and one picture that was disturbed moves no median.
-    #[test]
-    fn a_median_of_ratios() {
-        let times = [[1.0, 4.0], [10.0, 40.0], [900.0, 400.0]];
-        assert_eq!(super::median(times.map(|[a, b]| a / b).to_vec()), 0.25);
-    }
+    run(pictures)
 }

@@ -67,7 +67,8 @@ impl Blocks {
         bytes(probed::derive_mb(&self.info(), x, y, t8))
     }
 
-    fn info(&self) -> BlockInfo<'_> {
+    /// What the original's own functions are lent: for a clock, which asks them without a conversion.
+    pub fn info(&self) -> BlockInfo<'_> {
         BlockInfo {
             inter: &self.inter,
             nnz: &self.nnz,

@@ -1,11 +1,15 @@
-//! How much stack each call of the archive touches, and the original's whole-picture call beside it.
+//! How much stack each call of the archive touches, and beside it the original's whole-picture call and its
+//! strength calls.
 //!
 //! Each runs on a thread of its own whose stack is memory of ours, painted before. Afterwards the lowest byte
 //! that is not the paint tells how deep it went; a thread that calls nothing tells what of that is the
 //! thread's own. Twice, with two paints, since a byte that the call wrote may look like one.
 
 use deblock::{y4m, Flags, Grids, Kind, Part, Picture, Place, Size};
+use oracle::probed::probe::{derive_flags_into, Edges};
+use oracle::probed::{derive_mb, derive_mb_kind, MbKind};
 use std::ffi::c_void;
+use std::hint::black_box;
 use std::mem::MaybeUninit;
 
 const BYTES: usize = 1 << 20;
@@ -89,13 +93,17 @@ fn main() {
     let idle = deepest(|| ());
     let show = |name: &str, bytes: usize| println!("{name:<30}{:>6}", bytes - idle);
     println!("bytes of stack touched, beyond a thread that calls nothing");
+    // inter blocks that use both lists, each with a motion of its own
+    let mv: Vec<i16> = (0..128).collect();
+    let grids = Grids { inter: &[1; 64], nnz: &[0; 64], ref0: &[5; 64], mv0: &mv, ref1: &[6; 64], mv1: &mv };
     for (part, of) in [(Part::Frame, ""), (Part::BottomField, " of a field")] {
         let show = |name: &str, bytes: usize| show(&format!("{name}{of}"), bytes);
         filtering(&show, part);
-        strengths(&show, part);
+        strengths(&show, part, grids);
     }
     streams(&show);
     show("the Rust's whole picture", original());
+    original_strengths(&show, grids);
 }
 
 fn filtering(show: &dyn Fn(&str, usize), part: Part) {
@@ -130,13 +138,20 @@ fn original() -> usize {
     })
 }
 
-fn strengths(show: &dyn Fn(&str, usize), part: Part) {
-    let (inter, nnz, ref0, ref1) = ([1; 64], [0; 64], [5; 64], [6; 64]);
-    let mv0: Vec<i16> = (0..128).collect();
-    let grids = Grids { inter: &inter, nnz: &nnz, ref0: &ref0, mv0: &mv0, ref1: &ref1, mv1: &mv0 };
+fn strengths(show: &dyn Fn(&str, usize), part: Part, grids: Grids) {
     let mut memory = Memory::new(part);
     let mut p = Picture { t8s: &[1; 4], ..memory.lent() }; // with the flags most is read
     show("strengths by kind", deepest(|| assert!(p.derive_by_kind(grids, LAST, Kind::Inter).is_done())));
     show("strengths by flags", deepest(|| assert!(p.derive_by_flags(grids, LAST, Flags::default()).is_done())));
     show("strengths", deepest(|| assert!(p.derive(grids, LAST).is_done())));
+}
+
+/// Without 8x8 flags: with them the original reads as much, and compares less.
+fn original_strengths(show: &dyn Fn(&str, usize), grids: Grids) {
+    let Grids { inter, nnz, ref0, mv0, ref1, mv1 } = grids;
+    let blocks = oracle::Blocks::new(SIZE.w, oracle::Grids { inter, nnz, ref0, mv0, ref1, mv1 });
+    let (info, Place { x, y }, mut edges) = (&blocks.info(), LAST, Edges::default());
+    show("the Rust's strengths by kind", deepest(|| _ = black_box(derive_mb_kind(info, x, y, MbKind::Inter))));
+    show("the Rust's strengths by flags", deepest(|| derive_flags_into(info, x, y, [false; 2], false, &mut edges)));
+    show("the Rust's strengths", deepest(|| _ = black_box(derive_mb(info, x, y, false))));
 }

@@ -1,11 +1,8 @@
 //! A picture with stored strengths, and the time that each way takes for it.
 
-use crate::ways::{whole, Way};
+use super::ways::{whole, Way};
+use crate::{H, W};
 use inputs::{strengths, texture, Content, Rng, Texture};
-
-/// 720 by 576 in macroblocks.
-pub const W: usize = 45;
-pub const H: usize = 36;
 
 pub struct Picture {
     pub planes: [Vec<u8>; 3],

@@ -1,10 +1,9 @@
 //! The ways to filter a picture that are timed.
 
-use crate::cpu_time::seconds;
-use crate::picture::{Picture, H, W};
+use super::picture::Picture;
+use crate::cpu_time::timed;
+use crate::{H, SIZE, W};
 use deblock::{Offsets, Part, Place, Size};
-
-const SIZE: Size = Size { w: W, h: H };
 
 #[derive(Clone, Copy, Debug)]
 pub enum Way {
@@ -84,10 +83,4 @@ fn archive(picture: &Picture, [luma, u, v]: &mut [Vec<u8>; 3], work: impl FnOnce
         ..deblock::Picture::default()
     };
     timed(|| work(&mut lent))
-}
-
-fn timed(work: impl FnOnce()) -> f64 {
-    let start = seconds();
-    work();
-    seconds() - start
 }

@@ -26,11 +26,8 @@
  *     either of them writes may not: no two visits of one picture, no filtering of both fields of a frame, no
  *     two strength calls that are lent the same strengths, no filtering while its strengths are written.
  *     Buffers that are only read may be shared.
- *   - Stack: bytes that a call touched, measured by target/host/release/stack, of a field as of a frame. On
- *     x86-64, those of 0.5.0: whole 1832, rows 1848, visit 1552, strengths 1016, with flags 1032, with a kind
- *     1128, calls over streams 236 at most; under an emulator these touch no more. On Arm: 1344, 1360, 1168,
- *     880, 896, 960 and 112 (docs/SPEED.md, "Stack"). A function over structs takes at most 272 more at -O2,
- *     736 at -O0 (-fstack-usage of clang 14 and of gcc 12, each for x86-64 and Arm).
+ *   - Stack: a call needs less than 1700 bytes on x86-64, and less than 1300 on Arm, whatever it is lent;
+ *     docs/GUIDE.md, "Stack", has each call's bytes and what a function over structs adds.
  *
  * Sizes. A picture is w by h macroblocks, 1 <= w <= 256, 1 <= h <= 256, w * h <= 36864. Macroblock (x, y) has
  * index y * w + x. With n = w * h the lengths are:

@@ -1,5 +1,5 @@
--- `motion::blocks::bs1_tile` meets its contract: `by-lists`, of the comparisons that it makes. Assumes nothing.
-use mathlib.Core.Path.{_≡_, refl, sym, _∙_}
+-- `motion::blocks::bs1_tile` meets its contract: `by-lists`, of the pairs that it compares. Assumes nothing.
+use mathlib.Core.Path.{_≡_, sym, _∙_}
 use mathlib.Core.Bool.{Bool, _&&_, _||_}
 use borrow.Author.Needs.{needs}
 use Rattle.motion.specs.Motion.{differ}
@@ -8,6 +8,7 @@ use Rattle.motion.proofs.blocks.bs1_tile.Statement.{statement}
 use Rattle.motion.proofs.blocks.bs1_tile.Tie as tie
 
 module _ (c : tie.After-unlike2) where
+  -- once it has the four motions
   abbrev m : tie.After-motion12
   m = c .before .before
 
@@ -15,7 +16,9 @@ module _ (c : tie.After-unlike2) where
   s = m .before .before .before .before
 
   abbrev crossed : Bool
-  crossed = unlike (s .args .vertical) (m .before .before .before .motion0 .result) (m .motion12 .result) || unlike (s .args .vertical) (m .before .before .motion1 .result) (m .before .motion02 .result)
+  crossed =
+      unlike (s .args .vertical) (m .before .before .before .motion0 .result) (m .motion12 .result)
+      || unlike (s .args .vertical) (m .before .before .motion1 .result) (m .before .motion02 .result)
 
   by-crossed : ((c .before .unlike .result || c .unlike2 .result) && crossed) ≡ differ (s .args .vertical) (s .args .p) (s .args .q)
   by-crossed =
@@ -31,7 +34,9 @@ module _ (c : tie.After-unlike2) where
 returns : tie.Need-returns
 returns c =
     let t = c .before .before in
-    (λ i. c .before .unlike3 .ensures i || c .unlike4 .ensures i) ∙ (λ i. sym (t .if1 .taken) i && crossed (t .before)) ∙ by-crossed (t .before)
+    (λ i. c .before .unlike3 .ensures i || c .unlike4 .ensures i)
+    ∙ (λ i. sym (t .if1 .taken) i && crossed (t .before))
+    ∙ by-crossed (t .before)
 
 returns-2 : tie.Need-returns-2
 returns-2 c = (λ i. sym (c .if1 .left) i && crossed (c .before)) ∙ by-crossed (c .before)

@@ -90,15 +90,17 @@ fn x86_64(i: &Instruction) -> Result<Effect, String> {
         "sub" if to == "%rsp" => number(source),
         "add" if to == "%rsp" => number(source).map(|bytes| -bytes),
         "cmp" | "test" => Some(0),
-        "leave" | "enter" => None,
+        "leave" | "enter" | "pushw" | "popw" | "pushf" | "popf" | "notrack" | "bnd" => None,
         _ if to == "%rsp" => None,
         _ => Some(0),
     };
-    let below = match i.operands.split_once("(%rsp") {
-        Some((before, _)) => number(before.rsplit([',', ' ', '*']).next().unwrap_or("")).map_or(0, |at| -at),
-        None => 0,
-    };
-    Ok(Effect { down: down.ok_or(i.strange())?, below: below.max(0), next })
+    let address = i.operands.split_once("(%rsp").and_then(|(before, _)| before.rsplit([',', ' ', '*']).next());
+    Ok(Effect { down: down.ok_or(i.strange())?, below: below(address), next })
+}
+
+/// Bytes below the stack pointer, of an address that is so far from it.
+fn below(address: Option<&str>) -> i64 {
+    address.and_then(number).map_or(0, |at| 0.max(-at))
 }
 
 fn aarch64(i: &Instruction) -> Result<Effect, String> {
@@ -113,18 +115,18 @@ fn aarch64(i: &Instruction) -> Result<Effect, String> {
         word if word.starts_with("b.") => Next::Branch,
         _ => Next::Following,
     };
+    let by = |text: &str| number(text).map(|at| -at);
     let pointer = i.operands.strip_prefix("sp, ");
-    let down = match (i.word, pointer) {
-        ("sub", Some(rest)) => rest.strip_prefix("sp, ").and_then(number),
-        ("add", Some(rest)) => rest.strip_prefix("sp, ").and_then(number).map(|bytes| -bytes),
-        (_, Some(_)) => None,
-        _ => match i.operands.split_once("[sp") {
-            Some((_, rest)) if rest.ends_with("]!") => {
-                number(rest.trim_start_matches(", ").trim_end_matches("]!")).map(|at| -at)
-            }
-            Some((_, rest)) if rest.starts_with("], ") => number(rest.trim_start_matches("], ")).map(|at| -at),
-            _ => Some(0),
-        },
+    let address = i.operands.split_once("[sp").map(|(_, address)| address.trim_start_matches(", "));
+    let down = match (i.word, pointer, address) {
+        ("sub", Some(rest), _) => rest.strip_prefix("sp, ").and_then(number),
+        ("add", Some(rest), _) => rest.strip_prefix("sp, ").and_then(by),
+        (_, Some(_), _) => None,
+        // the address becomes the stack pointer's, or it does after the access
+        (_, _, Some(address)) if address.ends_with("]!") => by(address.trim_end_matches("]!")),
+        (_, _, Some(address)) if address.starts_with("], ") => by(address.trim_start_matches("], ")),
+        _ => Some(0),
     };
-    Ok(Effect { down: down.ok_or(i.strange())?, below: 0, next })
+    let address = address.map(|address| address.trim_end_matches(']'));
+    Ok(Effect { down: down.ok_or(i.strange())?, below: below(address), next })
 }

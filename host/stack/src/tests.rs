@@ -83,6 +83,8 @@ fn what_is_not_known_is_an_error() {
         ("   0:\tcall   *%rax\n   2:\tret", "top: 0: call *%rax: not covered"),
         ("   0:\tand    $-64,%rsp\n   4:\tret", "top: 0: and $-64,%rsp: not covered"),
         ("   0:\tsub    %rax,%rsp\n   4:\tret", "top: 0: sub %rax,%rsp: not covered"),
+        ("   0:\tnotrack jmp *%rax", "top: 0: notrack jmp *%rax: not covered"),
+        ("   0:\tpush   %rax", "top: it runs on past its end"),
         ("   0:\tje     3 <top+0x3>\n   2:\tpush   %rax\n   3:\tret", "top: 3: 8 and 0 bytes"),
         ("   0:\tret\n   1:\tpush   %rax", "top: 1: no way leads here"),
         (

@@ -1,18 +1,18 @@
 //! The stack that each call of an archive needs, read from its machine code: whatever a call is lent, it goes
-//! no deeper. For a run that tells how deep one input takes it there is `stack`.
+//! no deeper. How deep one input takes it, `touched` of `clock` shows.
 //!
-//! A frame is found by following every way through a function, a call by the deepest chain of calls below it.
-//! That tells all as long as no function calls itself, none is called by a pointer and no frame's size is
-//! known only when it runs. Code of another kind is an error, not a guess.
+//! What a function needs is found by following every way through it, and what a call needs by the deepest
+//! chain of calls below it. That tells all as long as no function calls itself, none is called by a pointer
+//! and none takes stack of a size that is known only when it runs. Other code is an error, not a guess.
 
 mod chain;
 mod code;
-mod frame;
 mod machine;
+mod need;
 
 use std::process::{Command, ExitCode};
 
-const HELP: &str = "depth ARCHIVE: bytes of stack that each function which ARCHIVE hands out needs, and the
+const HELP: &str = "stack ARCHIVE: bytes of stack that each function which ARCHIVE hands out needs, and the
 deepest chain of calls with the bytes of each. They are counted from the caller's stack pointer: on x86-64 the
 return address is among them, arguments that the caller puts on the stack are not. OBJDUMP names another
 disassembler than objdump, such as llvm-objdump for the archive of another machine.";
@@ -29,7 +29,7 @@ fn main() -> ExitCode {
             ExitCode::SUCCESS
         }
         Err(why) => {
-            eprintln!("depth: {why}");
+            eprintln!("stack: {why}");
             ExitCode::FAILURE
         }
     }
@@ -48,9 +48,9 @@ fn disassembled(archive: &str) -> Result<String, String> {
 /// A line for each function that no other calls.
 fn table(text: &str) -> Result<String, String> {
     let (machine, functions) = code::functions(text)?;
-    let frames = functions.iter().map(|f| Ok((f.name, frame::of(f, machine)?))).collect::<Result<_, String>>()?;
-    let rows = chain::tops(&frames).into_iter().map(|top| {
-        let links = chain::deepest(&frames, top)?;
+    let needs = functions.iter().map(|f| Ok((f.name, need::of(f, machine)?))).collect::<Result<_, String>>()?;
+    let rows = chain::tops(&needs).into_iter().map(|top| {
+        let links = chain::deepest(&needs, top)?;
         let bytes = machine.return_address() + chain::bytes(&links);
         Ok(format!("{top:<24}{bytes:>5}  {}\n", chain::shown(&links)))
     });

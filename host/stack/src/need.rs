@@ -6,23 +6,23 @@ use std::collections::BTreeMap;
 
 /// Bytes below where the stack pointer was when the function began.
 #[derive(Debug, Default, PartialEq)]
-pub struct Frame<'a> {
+pub struct Need<'a> {
     pub own: i64,
     /// The functions that it calls, and how deep it is then.
     pub calls: Vec<(i64, &'a str)>,
 }
 
-pub fn of<'a>(f: &Function<'a>, machine: Machine) -> Result<Frame<'a>, String> {
+pub fn of<'a>(f: &Function<'a>, machine: Machine) -> Result<Need<'a>, String> {
     let mut ways =
-        Ways { f, machine, frame: Frame::default(), depths: BTreeMap::new(), ahead: vec![(0, 0)], switch: None };
+        Ways { f, machine, need: Need::default(), depths: BTreeMap::new(), ahead: vec![(0, 0)], switch: None };
     ways.follow().map_err(|why| format!("{}: {why}", f.name))?;
-    Ok(ways.frame)
+    Ok(ways.need)
 }
 
 struct Ways<'f, 'a> {
     f: &'f Function<'a>,
     machine: Machine,
-    frame: Frame<'a>,
+    need: Need<'a>,
     /// How deep each instruction is that has been reached, by its index.
     depths: BTreeMap<usize, i64>,
     /// Instructions to go on from.
@@ -53,13 +53,13 @@ impl Ways<'_, '_> {
     }
 
     fn step(&mut self, index: usize, depth: i64) -> Result<(), String> {
-        let i = &self.f.code[index];
+        let i = self.f.code.get(index).ok_or("it runs on past its end")?;
         let effect = self.machine.effect(i)?;
         let after = depth + effect.down;
-        self.frame.own = self.frame.own.max(after).max(depth + effect.below);
+        self.need.own = self.need.own.max(after).max(depth + effect.below);
         match (effect.next, i.symbol) {
-            (Next::Call, Some(symbol)) => self.frame.calls.push((after + self.machine.return_address(), symbol)),
-            (Next::Branch | Next::Jump, Some(symbol)) => self.frame.calls.push((after, symbol)),
+            (Next::Call, Some(symbol)) => self.need.calls.push((after + self.machine.return_address(), symbol)),
+            (Next::Branch | Next::Jump, Some(symbol)) => self.need.calls.push((after, symbol)),
             (Next::Branch | Next::Jump, None) => self.ahead.push((self.index(i.target()?)?, after)),
             (Next::Switch, _) if self.switch.is_some_and(|depth| depth != after) => return Err(i.strange()),
             (Next::Switch, _) => self.switch = Some(after),

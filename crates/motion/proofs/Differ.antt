@@ -26,13 +26,13 @@ by-use false true false f = refl
 by-use false false m f = refl
 
 module _ (v : ℕ) where
-  abbrev held : Bool → Motion → List Motion
-  held s a = cond s (a ∷ []) []
+  abbrev usedIf : Bool → Motion → List Motion
+  usedIf s a = cond s (a ∷ []) []
 
   abbrev told : Bool → Bool → Motion → Motion → Bool
   told s t a c = cond s (not (t && mate v a c)) t
 
-  told-is : (s t : Bool) (a c : Motion) → told s t a c ≡ mismatched v (held s a) (held t c)
+  told-is : (s t : Bool) (a c : Motion) → told s t a c ≡ mismatched v (usedIf s a) (usedIf t c)
   unfolding mismatched
   told-is true true a c = by-one v a c
   told-is true false a c = refl
@@ -47,7 +47,7 @@ module _ (v : ℕ) where
 
   -- ---- two lists on each side: they differ in order, and crossed
   told-both : (s t u w : Bool) (a b c d : Motion)
-      → ((told s u a c || told t w b d) && (told s w a d || told t u b c)) ≡ mismatched v (held s a ++ held t b) (held u c ++ held w d)
+      → ((told s u a c || told t w b d) && (told s w a d || told t u b c)) ≡ mismatched v (usedIf s a ++ usedIf t b) (usedIf u c ++ usedIf w d)
   unfolding mismatched
   told-both true true true true a b c d = by-two v a b c d
   told-both true true true false a b c d = simp or-true

@@ -2,5 +2,6 @@
 // its caller. include/deblock.h declares them.
 pub mod derivation;
 pub mod filtering;
+pub mod showing;
 pub mod streams;
 pub mod visiting;

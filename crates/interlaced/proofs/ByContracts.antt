@@ -15,7 +15,7 @@ use Rattle.interlaced.specs.Contracts.{BothCalls, no-call, one-call}
 use Rattle.interlaced.specs.Promise.{arrivals, unevenArrivals, FieldsOutcome}
 use Rattle.interlaced.proofs.FieldsDemand3.{fields-demand-3}
 
-both-calls-run : {size : Size} {top bottom : OfField} {u v : Both} {rs : List Arrival} {ns : List ℕ} → BothCalls size top bottom u rs ns v
+pub both-calls-run : {size : Size} {top bottom : OfField} {u v : Both} {rs : List Arrival} {ns : List ℕ} → BothCalls size top bottom u rs ns v
     → (v ≡ run (bothVisit size top bottom) rs u) × (ns ≡ answers (bothVisit size top bottom) rs u)
 unfolding bothVisit
 both-calls-run no-call = (refl, refl)

@@ -25,7 +25,7 @@ use Rattle.interlaced.proofs.Apart.{all-valid, own-run, own-answers}
 use Rattle.interlaced.proofs.EachAlone.{early-lengths, refused-both, stored-same, FrameLengths, fieldIn, each-alone}
 use Rattle.interlaced.proofs.OneField.{same-early}
 
-marks-fresh : (size : Size) (start : Planes) (p : ℕ) → marksFor p (unvisitedBoth size start) ≡ fresh (size .w) (size .h)
+pub marks-fresh : (size : Size) (start : Planes) (p : ℕ) → marksFor p (unvisitedBoth size start) ≡ fresh (size .w) (size .h)
 marks-fresh size start p = go (eqb p 0)
   where
     go : (b : Bool) → cond b (fresh (size .w) (size .h)) (fresh (size .w) (size .h)) ≡ fresh (size .w) (size .h)

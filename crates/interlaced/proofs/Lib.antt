@@ -4,6 +4,7 @@ pub mod OneField
 pub mod RowsOfField
 pub mod EachAlone
 pub mod FieldsDemand3
+pub mod FieldsSettled
 pub mod Finished
 pub mod TwoWholes
 pub mod ByContracts

@@ -2,27 +2,22 @@
 -- computed, in the crates of their definitions; P12 goes through the checks of a real visit. Assumes nothing.
 use mathlib.Core.Path.{_≡_, refl}
 use mathlib.Core.List.{List, [], _∷_, _++_, map}
-use Prim.Native.Nat.{ℕ, _<_}
-use native.Mathlib.Omega.{arith}
-use borrow.Author.Tests.{eq-eqb}
-use lib.Dec.{T}
+use Prim.Native.Nat.{ℕ}
 use lib.ListN.{replicate}
 use Rattle.laws.specs.Cases.{Case, Holds}
 use Rattle.lines.specs.Cases as lines
 use Rattle.lines.proofs.Cases as lines-proved
 use Rattle.motion.specs.Cases as motion
 use Rattle.motion.proofs.Cases as motion-proved
-use Rattle.laws.proofs.Table.{bounded, at-most}
-use Rattle.edges.specs.Picture.{Planes, stepOf}
-use Rattle.visits.specs.Visit.{waiting, answer, visit}
-use Rattle.pictures.specs.Checks.{heldOf}
-use Rattle.visits.specs.Checks.{earlyOf, Sound, Fit}
-use Rattle.visits.specs.Fault.{band, outerStrengths, faultLent, faultHeld}
-use Rattle.visits.specs.Promise.{visitOf}
-use Rattle.visits.specs.Cases.{squarePlanes, columnLent, columnPlanes, asked, visitCases, twelve}
+use Rattle.edges.specs.Picture.{stepOf}
+use Rattle.visits.specs.Checks.{earlyOf}
+use Rattle.visits.specs.Fault.{faultLent, faultHeld}
+use Rattle.visits.specs.Smallest.{columnLent, columnPlanes}
+use Rattle.visits.specs.Cases.{squarePlanes, asked, visitCases, twelve}
 use Rattle.visits.proofs.Fault.{old-clear}
-use Rattle.visits.proofs.Instance.{fit-kept, none-over, passes-valid}
+use Rattle.visits.proofs.Instance.{fit-kept}
 use Rattle.visits.proofs.Old.{ours-refuses}
+use Rattle.visits.proofs.Smallest.{column-fit, column-first, column-second}
 
 holds-join : (cs ds : List Case) → Holds cs → Holds ds → Holds (cs ++ ds)
 holds-join [] ds h k = k
@@ -33,24 +28,6 @@ square-asked : asked faultLent squarePlanes ≡ 0 ∷ 14 ∷ []
 square-asked = ours-refuses (stepOf faultHeld) (earlyOf faultLent) squarePlanes (old-clear (replicate 256 128) (replicate 256 128) refl refl)
 
 -- 1 by 2: there is none
-column-sound : Sound columnLent
-column-sound = record { sides = refl; lengths = refl; range = refl; flag = none-over 1 [] tt; qp = none-over 51 (40 ∷ 40 ∷ []) tt; strength = none-over 4 (outerStrengths 0 0 ++ outerStrengths 0 1) tt }
-
-column-fit : Fit columnLent columnPlanes
-unfolding band
-column-fit = record { luma = refl; u = refl; v = refl }
-
-column-clear : (p : Planes) → Fit columnLent p → (a b y : ℕ) → T (bounded 1 (a ∷ b ∷ [])) → y < 2 → earlyOf columnLent (p, a ∷ b ∷ []) (0, y) ≡ 0
-column-clear p f a b y m h = passes-valid columnLent column-sound (p, a ∷ b ∷ []) f refl (at-most 1 (a ∷ b ∷ []) m) 0 y (omega arith) h
-
-column-first : visitOf columnLent (columnPlanes, 0 ∷ 0 ∷ []) (0, 0) ≡ (0, (stepOf (heldOf columnLent) 0 columnPlanes, 1 ∷ 0 ∷ []))
-unfolding visit answer waiting
-column-first = rw (eq-eqb _ 0 (column-clear columnPlanes column-fit 0 0 0 tt (omega arith)))
-
-column-second : (p : Planes) → Fit columnLent p → visitOf columnLent (p, 1 ∷ 0 ∷ []) (0, 1) .0 ≡ 0
-unfolding visit answer waiting
-column-second p f = rw (eq-eqb _ 0 (column-clear p f 1 0 1 tt (omega arith)))
-
 column-asked : asked columnLent columnPlanes ≡ 0 ∷ 0 ∷ []
 column-asked = rw (column-first, column-second _ (fit-kept columnLent 0 columnPlanes column-fit))
 

@@ -24,7 +24,7 @@ use Rattle.visits.proofs.Outcome.{outcome-of-visit}
 
 module _ (d : Lent) (sound : Sound d) (start : Planes) where
   -- from any two states that go along with each other
-  late-from : {k : ℕ} {s t now : State Planes} {rs : List At} {said : List ℕ} → Alongside d start s t → CallsWith (λ k. Lends d start) k t rs said now
+  pub late-from : {k : ℕ} {s t now : State Planes} {rs : List At} {said : List ℕ} → Alongside d start s t → CallsWith (λ k. Lends d start) k t rs said now
       → (said ≡ answers (visitOf d) rs s) × Alongside d start (run (visitOf d) rs s) now
   late-from a last = (refl, a)
   late-from {s} a (call {r = r} {rs = rs} c o more) =
@@ -47,7 +47,7 @@ module _ (d : Lent) (sound : Sound d) (start : Planes) where
       }
 
   -- before the first call nothing is marked, so the planes may hold anything
-  alongside-first : (first : Planes) → Fit d start → Fit d first → Alongside d start (unvisited d start) (unvisited d first)
+  pub alongside-first : (first : Planes) → Fit d start → Fit d first → Alongside d start (unvisited d start) (unvisited d first)
   alongside-first first f g = record {
     marks = refl;
     same = nowhere-same d f g (λ N k m. none-marked (d .size .w * d .size .h) _ m);

@@ -70,7 +70,7 @@ module _ (d : Lent) where
           at N k u (inl e) = u (subst (Marked (visitOf d s r .1 .1)) (sym e) (own-marked d s r z))
           at N k u (inr m) = u (mark-kept s r _ m)
 
-  run-kept : (rs : List At) (s : State Planes) (j : ℕ) → Marked (s .1) j → Marked (run (visitOf d) rs s .1) j
+  pub run-kept : (rs : List At) (s : State Planes) (j : ℕ) → Marked (s .1) j → Marked (run (visitOf d) rs s .1) j
   run-kept [] s j m = m
   run-kept (r ∷ rs) s j m = run-kept rs (visitOf d s r .1) j (mark-kept s r j m)
 

@@ -1,5 +1,5 @@
 -- What cannot be left out: with another QP in the upper neighbour the samples come out different, and with a
--- value there that is no QP the answer does. On the picture of 1 by 2 of Cases.antt. Assumes nothing.
+-- value there that is no QP the answer does. On the picture of 1 by 2 of specs/Smallest.antt. Assumes nothing.
 use mathlib.Core.Path.{_≡_, refl, sym, _∙_}
 use mathlib.Core.List.{[], _∷_}
 use Prim.Native.Nat.{ℕ, _-_, _<_}
@@ -24,11 +24,11 @@ use Rattle.edges.specs.Picture.{Planes, lumaOf, macroblockAt, stepOf}
 use Rattle.sizes.specs.Entries.{flagAt}
 use Rattle.pictures.specs.Checks.{Lent, lent, heldOf, someBad}
 use Rattle.visits.specs.Visit.{At, State, waiting, answer, visit}
-use Rattle.visits.specs.Cases.{columnLent, columnPlanes}
 use Rattle.visits.specs.Checks.{earlyIn, badMarks, badQps, Sound, Fit}
 use Rattle.visits.specs.Fault.{band}
 use Rattle.visits.specs.Late.{SameAt, NearFoot, SameShape, SameEntry, SameData, SameMarks, ofRequest}
 use Rattle.visits.specs.Promise.{visitOf}
+use Rattle.visits.specs.Smallest.{columnLent, columnPlanes}
 use Rattle.visits.proofs.Instance.{none-over, passes-valid}
 use Rattle.visits.proofs.Late.{same-itself}
 

@@ -30,6 +30,7 @@ pub mod Progress
 pub mod Refused
 pub mod Rounds
 pub mod RoundsRun
+pub mod Smallest
 pub mod Unique
 pub mod Unseen
 pub mod Verdict

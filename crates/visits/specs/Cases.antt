@@ -7,23 +7,15 @@ use Rattle.laws.specs.Cases.{Case}
 use Rattle.lines.specs.Cases as lines
 use Rattle.motion.specs.Cases as motion
 use Rattle.edges.specs.Picture.{Planes, planes}
-use Rattle.edges.specs.Cases.{noOffsets}
-use Rattle.pictures.specs.Checks.{Lent, lent}
-use Rattle.visits.specs.Fault.{band, outerStrengths, faultLuma, faultLent}
+use Rattle.pictures.specs.Checks.{Lent}
+use Rattle.visits.specs.Fault.{faultLuma, faultLent}
 use Rattle.visits.specs.Promise.{visitOf, unvisited}
+use Rattle.visits.specs.Smallest.{columnLent, columnPlanes}
 use Rattle.visits.specs.Visit.{answers}
 
 -- 2 by 2
 abbrev pub squarePlanes : Planes
 squarePlanes = planes faultLuma (replicate 256 128) (replicate 256 128)
-
--- 1 by 2
-abbrev pub columnLent : Lent
-columnLent =
-    lent (record { w = 1; h = 2 }) noOffsets (outerStrengths 0 0 ++ outerStrengths 0 1) (40 ∷ 40 ∷ []) []
-
-abbrev pub columnPlanes : Planes
-columnPlanes = planes (band 16 16 100 0 0 ++ band 16 16 105 0 0) (replicate 128 128) (replicate 128 128)
 
 -- the answers of visits of (0, 0), then (0, 1)
 abbrev pub asked : Lent → Planes → List ℕ

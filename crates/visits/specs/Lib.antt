@@ -10,4 +10,5 @@ pub mod Late
 pub mod Old
 pub mod Promise
 pub mod Rounds
+pub mod Smallest
 pub mod Visit

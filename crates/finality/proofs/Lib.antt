@@ -1,0 +1,10 @@
+pub mod Asked
+pub mod Exactly
+pub mod Examples
+pub mod InSequence
+pub mod LateSettled
+pub mod Made
+pub mod Needed
+pub mod Places
+pub mod Refused
+pub mod Settled

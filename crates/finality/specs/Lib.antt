@@ -1,0 +1,4 @@
+pub mod Final
+pub mod Made
+pub mod Needed
+pub mod Settled

@@ -17,14 +17,14 @@ use Rattle.finality.specs.declared.Finality.{Finality}
 use Rattle.finality.specs.Final.{hasRight, hasLower, isFinal, badAsked, placeChecks, finality}
 
 -- a refusal, and an answer
-pub refused : {n m : ℕ} (b : Bool) → n ≡ m → (n ≡ 0 → ⊥) → _≡_ {A = Finality} (record { number = n; yes = false }) (finality m b)
-refused {n} {m} b e h = λ i. record { number = e i; yes = (false-is ∙ ap (λ (k : ℕ). eqb k 0 && b) e) i }
+pub answer-refused : {n m : ℕ} (b : Bool) → n ≡ m → (n ≡ 0 → ⊥) → _≡_ {A = Finality} (record { number = n; yes = false }) (finality m b)
+answer-refused {n} {m} b e h = λ i. record { number = e i; yes = (false-is ∙ ap (λ (k : ℕ). eqb k 0 && b) e) i }
   where
     false-is : false ≡ (eqb n 0 && b)
     false-is = rw (ne-eqb n 0 h)
 
-pub answered : {n m : ℕ} {a b : Bool} → n ≡ m → n ≡ 0 → a ≡ b → _≡_ {A = Finality} (record { number = n; yes = a }) (finality m b)
-answered {n} {m} {a} {b} e z f = λ i. record { number = e i; yes = (f ∙ same ∙ ap (λ (k : ℕ). eqb k 0 && b) e) i }
+pub answer-told : {n m : ℕ} {a b : Bool} → n ≡ m → n ≡ 0 → a ≡ b → _≡_ {A = Finality} (record { number = n; yes = a }) (finality m b)
+answer-told {n} {m} {a} {b} e z f = λ i. record { number = e i; yes = (f ∙ same ∙ ap (λ (k : ℕ). eqb k 0 && b) e) i }
   where
     same : b ≡ (eqb n 0 && b)
     same = rw (eq-eqb n 0 z)
@@ -73,29 +73,29 @@ module _ (size : Size) (ms : List ℕ) (x y : ℕ) where
   abbrev atLower : ℕ
   atLower = (y + 1) * size .w + x
 
-  abbrev pub own : ℕ
-  own = getD ms i 0
+  abbrev pub ownMark : ℕ
+  ownMark = getD ms i 0
 
-  abbrev pub right : ℕ
-  right = cond (hasRight size x) (getD ms (i + 1) 0) 1
+  abbrev pub rightMark : ℕ
+  rightMark = cond (hasRight size x) (getD ms (i + 1) 0) 1
 
-  abbrev pub lower : ℕ
-  lower = cond (hasLower size y) (getD ms (i + size .w) 0) 1
+  abbrev pub lowerMark : ℕ
+  lowerMark = cond (hasLower size y) (getD ms (i + size .w) 0) 1
 
-  right-is : right ≡ cond (hasRight size x) (getD ms atRight 0) 1
+  right-is : rightMark ≡ cond (hasRight size x) (getD ms atRight 0) 1
   right-is = let e : i + 1 ≡ atRight = omega arith in ap (λ (k : ℕ). cond (hasRight size x) (getD ms k 0) 1) e
 
-  lower-is : lower ≡ cond (hasLower size y) (getD ms atLower 0) 1
+  lower-is : lowerMark ≡ cond (hasLower size y) (getD ms atLower 0) 1
   lower-is = let e : i + size .w ≡ atLower = omega arith in ap (λ (k : ℕ). cond (hasLower size y) (getD ms k 0) 1) e
 
-  pub final-by-index : (eqb own 1 && eqb right 1 && eqb lower 1) ≡ isFinal size ms x y
+  pub final-by-index : (eqb ownMark 1 && eqb rightMark 1 && eqb lowerMark 1) ≡ isFinal size ms x y
   unfolding isFinal
   final-by-index =
-      (λ j. eqb own 1 && eqb (right-is j) 1 && eqb (lower-is j) 1)
-      ∙ (λ j. eqb own 1 && if-marked (hasRight size x) (getD ms atRight 0) j && if-marked (hasLower size y) (getD ms atLower 0) j)
+      (λ j. eqb ownMark 1 && eqb (right-is j) 1 && eqb (lower-is j) 1)
+      ∙ (λ j. eqb ownMark 1 && if-marked (hasRight size x) (getD ms atRight 0) j && if-marked (hasLower size y) (getD ms atLower 0) j)
 
-  pub bad-by-index : (ltb 1 own || ltb 1 right || ltb 1 lower) ≡ badAsked size ms x y
+  pub bad-by-index : (ltb 1 ownMark || ltb 1 rightMark || ltb 1 lowerMark) ≡ badAsked size ms x y
   unfolding badAsked
   bad-by-index =
-      (λ j. ltb 1 own || ltb 1 (right-is j) || ltb 1 (lower-is j))
-      ∙ (λ j. ltb 1 own || if-bad (hasRight size x) (getD ms atRight 0) j || if-bad (hasLower size y) (getD ms atLower 0) j)
+      (λ j. ltb 1 ownMark || ltb 1 (right-is j) || ltb 1 (lower-is j))
+      ∙ (λ j. ltb 1 ownMark || if-bad (hasRight size x) (getD ms atRight 0) j || if-bad (hasLower size y) (getD ms atLower 0) j)

@@ -35,9 +35,9 @@ pub no-size : finalityOf (by 0 1) (9 ∷ []) 5 5 ≡ finality 1 false
 unfolding finalityOf isFinal badAsked
 no-size = refl
 
-pub outside : finalityOf (by 2 1) (9 ∷ []) 2 0 ≡ finality 2 false
+pub beyond-it : finalityOf (by 2 1) (9 ∷ []) 2 0 ≡ finality 2 false
 unfolding finalityOf isFinal badAsked
-outside = refl
+beyond-it = refl
 
 pub too-few : finalityOf (by 2 1) (9 ∷ []) 0 0 ≡ finality 4 false
 unfolding finalityOf isFinal badAsked

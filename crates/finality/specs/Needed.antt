@@ -10,8 +10,8 @@ use Rattle.visits.specs.Promise.{visitOf, unvisited}
 use Rattle.visits.specs.Visit.{At, run}
 use Rattle.finality.specs.Settled.{SameMacroblock}
 
--- with valid data, from nothing visited, requests lead to the marks ms; a visit of r is done then, and changes
--- a sample of macroblock (0, 0)
+-- with valid data, from nothing visited, requests lead to the marks ms; a visit of r is done then, and it
+-- changes a sample of macroblock (0, 0)
 pub record StillChanges (d : Lent) (start : Planes) (rs : List At) (ms : List ℕ) (r : At) : Type 0 where
   pub sound : Sound d
   pub fit : Fit d start

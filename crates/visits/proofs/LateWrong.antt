@@ -1,5 +1,6 @@
 -- What cannot be left out: with another QP in the upper neighbour the samples come out different, and with a
--- value there that is no QP the answer does. On the picture of 1 by 2 of specs/Smallest.antt. Assumes nothing.
+-- value there that is no QP the answer does. On the picture of 1 by 2 of specs/Smallest.antt. Assumes
+-- nothing.
 use mathlib.Core.Path.{_≡_, refl, sym, _∙_}
 use mathlib.Core.List.{[], _∷_}
 use Prim.Native.Nat.{ℕ, _-_, _<_}

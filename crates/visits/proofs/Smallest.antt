@@ -28,8 +28,8 @@ use Rattle.visits.specs.Visit.{waiting, answer, visit}
 use Rattle.visits.proofs.Instance.{none-over, passes-valid}
 
 -- ---- one macroblock
-abbrev pub oneStep : ℕ → Planes → Planes
-oneStep = stepOf (heldOf oneLent)
+abbrev pub singleStep : ℕ → Planes → Planes
+singleStep = stepOf (heldOf oneLent)
 
 pub one-sound : Sound oneLent
 one-sound = record { sides = refl; lengths = refl; range = refl; flag = none-over 1 [] tt; qp = none-over 51 (40 ∷ []) tt; strength = none-over 4 oneStrengths tt }
@@ -41,12 +41,12 @@ one-fit = record { luma = refl; u = refl; v = refl }
 pub one-clear : earlyOf oneLent (onePlanes, 0 ∷ []) (0, 0) ≡ 0
 one-clear = passes-valid oneLent one-sound (onePlanes, 0 ∷ []) one-fit refl (at-most 1 (0 ∷ []) tt) 0 0 (omega arith) (omega arith)
 
-pub one-first : visitOf oneLent (onePlanes, 0 ∷ []) (0, 0) ≡ (0, (oneStep 0 onePlanes, 1 ∷ []))
+pub one-first : visitOf oneLent (onePlanes, 0 ∷ []) (0, 0) ≡ (0, (singleStep 0 onePlanes, 1 ∷ []))
 unfolding visit answer waiting
 one-first = rw (eq-eqb _ 0 one-clear)
 
 -- luma sample (3, 0), before and after
-pub one-samples : (getD (onePlanes .luma) 3 0 ≡ 100) × (getD (oneStep 0 onePlanes .luma) 3 0 ≡ 101)
+pub one-samples : (getD (onePlanes .luma) 3 0 ≡ 100) × (getD (singleStep 0 onePlanes .luma) 3 0 ≡ 101)
 unfolding band macroblockAt lumaOf flagAt upTo lumaRule lumaEdge lumaWay lumaBoth lumaAt lumaLine normalLine lumaNormal nudgeOf innerOf deltaOf clip3 clip1 average indexOf alphas betas tc0s
 one-samples = (refl, refl)
 

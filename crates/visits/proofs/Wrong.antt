@@ -23,7 +23,7 @@ use Rattle.visits.proofs.Instance.{fit-kept, passes-valid}
 use Rattle.visits.proofs.Fault as fault
 use Rattle.visits.proofs.Refused as refused
 use Rattle.visits.proofs.Refused.{idleVisit, firstOnly, turnsAway, readyFirst, marksRefused}
-use Rattle.visits.proofs.Smallest.{oneStep, one-clear, one-samples, pairStep, pair-fit, pair-clear, pair-samples}
+use Rattle.visits.proofs.Smallest.{singleStep, one-clear, one-samples, pairStep, pair-fit, pair-clear, pair-samples}
 
 -- ---- always refuses: with valid data, on any picture
 pub visit-always-refuses : (d : Lent) → Sound d → 0 < d .size .w → 0 < d .size .h → (start : Planes) → Fit d start
@@ -69,12 +69,12 @@ pub marks-refused : Demand3 2 1 pairStep (earlyOf pairLent) itself (marksRefused
 marks-refused = refused.marks-refused pairStep (earlyOf pairLent) pairPlanes (pair-clear pairPlanes pair-fit 0 0 1 tt (omega arith))
 
 -- ---- one macroblock
-one-moves : oneStep 0 onePlanes ≢ onePlanes
+one-moves : singleStep 0 onePlanes ≢ onePlanes
 one-moves e = let k : _≡_ {A = ℕ} 101 100 = sym (one-samples .1) ∙ ap (λ (p : Planes). getD (p .luma) 3 0) e ∙ one-samples .0 in omega arith
 
 -- leaves the planes untouched
-pub planes-untouched : Demand3 1 1 oneStep (earlyOf oneLent) itself (idleVisit 1 oneStep (earlyOf oneLent)) → ⊥
-planes-untouched = refused.planes-untouched oneStep (earlyOf oneLent) onePlanes one-clear one-moves
+pub planes-untouched : Demand3 1 1 singleStep (earlyOf oneLent) itself (idleVisit 1 singleStep (earlyOf oneLent)) → ⊥
+planes-untouched = refused.planes-untouched singleStep (earlyOf oneLent) onePlanes one-clear one-moves
 
 -- ---- readiness without the upper right neighbour, on the picture of Fault.antt: already the answer to its
 -- second visit is wrong

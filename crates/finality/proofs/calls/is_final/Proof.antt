@@ -11,7 +11,7 @@ use lib.ListN.{length}
 use Rattle.laws.specs.Refusal.{refusal}
 use Rattle.laws.proofs.Refusal.{first-applies, first-passed, skip, stop}
 use Rattle.finality.specs.Final.{isFinal, badAsked, placeChecks, finalityOf}
-use Rattle.finality.proofs.Asked.{refused, answered, Placed, placed, own-in, right-in, lower-in, own, final-by-index, bad-by-index}
+use Rattle.finality.proofs.Asked.{answer-refused, answer-told, Placed, placed, own-in, right-in, lower-in, ownMark, final-by-index, bad-by-index}
 use Rattle.finality.proofs.calls.is_final.Statement.{statement}
 use Rattle.finality.proofs.calls.is_final.Tie as tie
 
@@ -33,7 +33,7 @@ inside c = let a = start c .args in placed (a .size) (length (a .marks .now)) (a
 
 returns : tie.Need-returns
 unfolding finalityOf
-returns c = let s = c .before .before .before in refused _ (first-applies (place s) (seven s) tt (c .before .refuse-place .ensures) (c .if1 .taken)) (c .if1 .taken)
+returns c = let s = c .before .before .before in answer-refused _ (first-applies (place s) (seven s) tt (c .before .refuse-place .ensures) (c .if1 .taken)) (c .if1 .taken)
 
 own-place : (c : tie.Else1) → let a = start c .args in a .y * a .size .w + a .x < length (a .marks .now)
 own-place c = let a = start c .args in own-in (a .size) (length (a .marks .now)) (a .x) (a .y) (inside c)
@@ -43,17 +43,17 @@ abbrev past : tie.After-mark-if2 → tie.Else1
 past c = c .before .before .before .before
 
 bad : (c : tie.After-mark-if2) → let a = start (past c) .args in
-    (ltb 1 (own (a .size) (a .marks .now) (a .x) (a .y)) || ltb 1 (c .before .before .mark-if .result) || ltb 1 (c .mark-if2 .result)) ≡ badAsked (a .size) (a .marks .now) (a .x) (a .y)
+    (ltb 1 (ownMark (a .size) (a .marks .now) (a .x) (a .y)) || ltb 1 (c .before .before .mark-if .result) || ltb 1 (c .mark-if2 .result)) ≡ badAsked (a .size) (a .marks .now) (a .x) (a .y)
 bad c =
     let a = start (past c) .args in
-    (λ i. ltb 1 (own (a .size) (a .marks .now) (a .x) (a .y)) || ltb 1 (c .before .before .mark-if .ensures i) || ltb 1 (c .mark-if2 .ensures i))
+    (λ i. ltb 1 (ownMark (a .size) (a .marks .now) (a .x) (a .y)) || ltb 1 (c .before .before .mark-if .ensures i) || ltb 1 (c .mark-if2 .ensures i))
     ∙ bad-by-index (a .size) (a .marks .now) (a .x) (a .y)
 
 final : (c : tie.After-mark-if2) → let a = start (past c) .args in
-    (eqb (own (a .size) (a .marks .now) (a .x) (a .y)) 1 && eqb (c .before .before .mark-if .result) 1 && eqb (c .mark-if2 .result) 1) ≡ isFinal (a .size) (a .marks .now) (a .x) (a .y)
+    (eqb (ownMark (a .size) (a .marks .now) (a .x) (a .y)) 1 && eqb (c .before .before .mark-if .result) 1 && eqb (c .mark-if2 .result) 1) ≡ isFinal (a .size) (a .marks .now) (a .x) (a .y)
 final c =
     let a = start (past c) .args in
-    (λ i. eqb (own (a .size) (a .marks .now) (a .x) (a .y)) 1 && eqb (c .before .before .mark-if .ensures i) 1 && eqb (c .mark-if2 .ensures i) 1)
+    (λ i. eqb (ownMark (a .size) (a .marks .now) (a .x) (a .y)) 1 && eqb (c .before .before .mark-if .ensures i) 1 && eqb (c .mark-if2 .ensures i) 1)
     ∙ final-by-index (a .size) (a .marks .now) (a .x) (a .y)
 
 returns-2 : tie.Need-returns-2
@@ -61,14 +61,14 @@ unfolding finalityOf
 returns-2 c =
     let e = past (c .before) in
     let s = start e in
-    refused _ (first-passed (place s) (seven s) tt (zero e) (stop 7 0 (sym (bad (c .before)) ∙ c .if2 .taken))) (omega arith)
+    answer-refused _ (first-passed (place s) (seven s) tt (zero e) (stop 7 0 (sym (bad (c .before)) ∙ c .if2 .taken))) (omega arith)
 
 returns-3 : tie.Need-returns-3
 unfolding finalityOf
 returns-3 c =
     let e = past (c .before) in
     let s = start e in
-    answered (e .if1 .left ∙ first-passed (place s) (seven s) tt (zero e) (skip 7 (sym (bad (c .before)) ∙ c .if2 .left) refl)) (e .if1 .left) (final (c .before))
+    answer-told (e .if1 .left ∙ first-passed (place s) (seven s) tt (zero e) (skip 7 (sym (bad (c .before)) ∙ c .if2 .left) refl)) (e .if1 .left) (final (c .before))
 
 right-requires : tie.Need-mark-if-requires
 right-requires c κs = let a = start (c .before) .args in λ h. right-in (a .size) (length (a .marks .now)) (a .x) (a .y) (inside (c .before)) (ltb-true _ _ h)

@@ -1,6 +1,8 @@
-/* For examples/slices.c and fields.c: a decoder's stand-in, which makes random pictures and the order in
- * which their slices arrive; and a picture's memory, how it is lent and how a macroblock of it is copied. All
- * values are legal, though no encoder would choose them so. */
+/* For examples/slices.c, painter.c and fields.c: a decoder's stand-in, which makes random pictures and the
+ * order in which their slices arrive; a picture's memory, how it is lent and how a macroblock of it is
+ * copied; and what must hold. All values are legal, though no encoder would choose them so. */
+#include <stdio.h>
+#include <stdlib.h>
 #include <string.h>
 
 #include "deblock.h"
@@ -149,4 +151,27 @@ static inline void copy_samples(struct planes *to, const struct planes *from, si
     copy(to->luma, from->luma, i, 16, 16);
     copy(to->u, from->u, i, 8, 8);
     copy(to->v, from->v, i, 8, 8);
+}
+
+static uint32_t number; /* of the picture, or of the frame */
+
+/* Where it does not hold the program says so and ends with status 1. */
+static inline void must(int holds, const char *what)
+{
+    if (holds)
+        return;
+    fprintf(stderr, "picture %u: %s\n", (unsigned)number, what);
+    exit(1);
+}
+
+static inline void must_be_done(uint32_t answer)
+{
+    must(answer == DEBLOCK_DONE, deblock_answer_text(answer));
+}
+
+/* All strengths of a picture whose data are all there. */
+static inline void derive_all(const struct deblock_picture *p, const struct deblock_grids *g)
+{
+    for (size_t i = 0; i < N; i++)
+        must_be_done(deblock_picture_strengths(p, g, i % W, i / W));
 }

@@ -5,28 +5,11 @@
  *
  * The same in Rust is host/binding/examples/slices. Both cut and shuffle slices alike, and print
  * examples/slices.txt. */
-#include <stdio.h>
-#include <stdlib.h>
-
 #include "decoder.h"
 
-static uint32_t number; /* of the picture */
 static struct buffers station;
 static uint8_t arrived[N], derived[N], shown[N];
 static struct planes screen;
-
-static void must(int holds, const char *what)
-{
-    if (holds)
-        return;
-    fprintf(stderr, "slices: picture %u: %s\n", (unsigned)number, what);
-    exit(1);
-}
-
-static void must_be_done(uint32_t answer)
-{
-    must(answer == DEBLOCK_DONE, deblock_answer_text(answer));
-}
 
 /* Stores macroblock i when it arrives, and not again: by then its samples may be filtered ones. */
 static void store(size_t i)
@@ -71,25 +54,17 @@ static void visit(size_t i)
         must_be_done(answer);
 }
 
-/* Whether a macroblock is marked, or does not exist: it is beyond the right or lower border. */
-static int is_marked(size_t x, size_t y)
-{
-    return x == W || y == H || station.marks[y * W + x];
-}
-
-/* Whether no later visit touches macroblock (x, y). */
-static int is_final(size_t x, size_t y)
-{
-    return is_marked(x, y) && is_marked(x + 1, y) && is_marked(x, y + 1);
-}
-
-/* Shows macroblock i once, when it is final. */
+/* Shows macroblock i once, when it is final. examples/painter.c asks after each visit instead. */
 static void show(size_t i)
 {
-    if (shown[i] || !is_final(i % W, i / W))
+    if (shown[i])
         return;
-    shown[i] = 1;
-    copy_samples(&screen, &station.planes, i);
+    const struct deblock_picture p = lend_picture(&station);
+    const struct deblock_finality told = deblock_picture_is_final(&p, i % W, i / W);
+    must_be_done(told.answer);
+    shown[i] = told.yes;
+    if (shown[i])
+        copy_samples(&screen, &station.planes, i);
 }
 
 static void each(void (*step)(size_t), size_t first, size_t last)
@@ -150,15 +125,6 @@ static void receive_slices(void)
     }
 }
 
-/* All strengths of a picture whose data are all there. */
-static void derive_all(struct buffers *b)
-{
-    const struct deblock_picture p = lend_picture(b);
-    const struct deblock_grids g = lend_grids(b);
-    for (size_t i = 0; i < N; i++)
-        must_be_done(deblock_picture_strengths(&p, &g, i % W, i / W));
-}
-
 static void filter_rows(struct buffers *b)
 {
     const struct deblock_picture p = lend_picture(b);
@@ -170,10 +136,11 @@ static void compare(void)
 {
     static struct buffers whole, rows;
     whole = sent;
-    derive_all(&whole);
+    const struct deblock_picture p = lend_picture(&whole);
+    const struct deblock_grids g = lend_grids(&whole);
+    derive_all(&p, &g);
     rows = whole;
     filter_rows(&rows);
-    const struct deblock_picture p = lend_picture(&whole);
     must_be_done(deblock_picture_whole(&p));
     must(memcmp(&rows.planes, &whole.planes, sizeof screen) == 0, "rows from the top give other planes");
     must(memcmp(&station.planes, &whole.planes, sizeof screen) == 0, "visits give other planes");

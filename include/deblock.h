@@ -1,11 +1,12 @@
 /* The deblocking filter's C interface: C99 and later, C++17. docs/RULES.md states the rules that it keeps;
  * docs/GUIDE.md, "From C", says how it is used and linked.
  *
- * The archive has ten flat calls: three that filter, three that derive strengths, and four for pictures kept
- * as YUV4MPEG2 streams. Each is proved to do what its contract in crates/deblock/src says, for every content
- * of the memory lent. At the end of this file are six functions over structs, which hand the structs' members
- * on to the first six of them: start there. They are compiled with the caller and are not proved;
- * examples/tests looks at every argument that they hand on. The four of streams are short and have none.
+ * The archive has twelve flat calls: three that filter, two that tell which macroblocks are final, three that
+ * derive strengths, and four for pictures kept as YUV4MPEG2 streams. Each is proved to do what its contract
+ * in crates/deblock/src says, for every content of the memory lent. At the end of this file are eight
+ * functions over structs, which hand the structs' members on to the first eight of them: start there. They
+ * are compiled with the caller and are not proved; examples/tests looks at every argument that they hand on.
+ * The four of streams are short and have none.
  *
  * Every call but deblock_y4m_length, which tells a length, answers a number of enum deblock_answer. A number
  * other than 0 is a refusal, and a refusal changes no byte of what was lent.
@@ -23,9 +24,9 @@
  *   - Calls are re-entrant. None allocates, waits, or keeps a pointer after it has returned.
  *   - The archive has no variables and needs no library, libc included: `nm -u` names no symbol.
  *   - Threads: calls on different pictures may be made at the same time. Two calls that share a buffer which
- *     either of them writes may not: no two visits of one picture, no filtering of both fields of a frame, no
- *     two strength calls that are lent the same strengths, no filtering while its strengths are written.
- *     Buffers that are only read may be shared.
+ *     either of them writes may not: no two visits of one picture, no visit while it is asked what is final,
+ *     no filtering of both fields of a frame, no two strength calls that are lent the same strengths, no
+ *     filtering while its strengths are written. Buffers that are only read may be shared.
  *   - Stack: a call needs less than 1700 bytes on x86-64, and less than 1300 on Arm, whatever it is lent;
  *     docs/GUIDE.md, "Stack", has each call's bytes and what a function over structs adds.
  *
@@ -63,9 +64,9 @@
 #include <stdint.h>
 
 #define DEBLOCK_VERSION_MAJOR 0
-#define DEBLOCK_VERSION_MINOR 6
+#define DEBLOCK_VERSION_MINOR 7
 #define DEBLOCK_VERSION_PATCH 0
-#define DEBLOCK_VERSION "0.6.0"
+#define DEBLOCK_VERSION "0.7.0"
 
 /* What a call answers. Checks are made in the order of this list, each call making those whose data it takes;
  * the first that applies is the answer. The numbers are not in that order: 19 is asked between 2 and 3. The
@@ -169,7 +170,7 @@ uint32_t deblock_rows(size_t w, size_t h, uint8_t part, size_t first, size_t las
  * reads strengths and flag of the macroblock, QPs of it and of its left and upper neighbours, the marks of it
  * and of its left, upper and upper right neighbours, and samples of it and of its left and upper neighbours.
  * So what belongs to a macroblock may be written until its own visit, and not after it; before, let its QP be
- * a legal one. It may be shown once it, its right and its lower neighbour, as far as they exist, are marked.
+ * a legal one. It may be shown once it is final, which deblock_made_final tells.
  * Writes luma, u, v, marks. Answers 0, 1, 2, 19, 3, 4, 6, 7, 8, 9, 13, 14. */
 uint32_t deblock_visit(size_t w, size_t h, uint8_t part, size_t x, size_t y,
                        int32_t a, int32_t b, int32_t chroma_u, int32_t chroma_v,
@@ -177,6 +178,37 @@ uint32_t deblock_visit(size_t w, size_t h, uint8_t part, size_t x, size_t y,
                        const uint8_t *strengths, size_t strengths_len,
                        const uint8_t *qps, size_t qps_len, const uint8_t *t8s, size_t t8s_len,
                        uint8_t *marks, size_t marks_len);
+
+/* The two calls of finality are lent marks as visits leave them, of a frame or of one field, and take no
+ * part. A macroblock is final once it, its right and its lower neighbour, as far as they exist, are marked:
+ * no later visit changes a sample of it, and each is the whole filtered picture's. docs/GUIDE.md, "When a
+ * macroblock may be shown", has more. */
+
+/* Whether a macroblock is final. */
+struct deblock_finality {
+    uint32_t answer; /* of enum deblock_answer */
+    uint8_t yes;     /* 1 where it is final, else 0; 0 unless answer is 0 */
+};
+
+/* Is macroblock (x, y) final? It reads the marks of it and of its right and lower neighbours.
+ * Writes nothing. Answers 0, 1, 2, 4, 7. */
+struct deblock_finality deblock_is_final(size_t w, size_t h, size_t x, size_t y,
+                                         const uint8_t *marks, size_t marks_len);
+
+/* Which macroblocks are final. */
+struct deblock_finals {
+    uint32_t answer;          /* of enum deblock_answer */
+    uint8_t own, left, upper; /* 1 where there is one and it is final, else 0; all 0 unless answer is 0 */
+};
+
+/* What has a visit of (x, y) made final? Asked with the marks that a visit which answered 0 has left, it
+ * lists all that has become final with it, of the macroblock and its left and upper neighbours; none of the
+ * three was final before. It asks of them, in this order, what deblock_is_final asks, and answers the first
+ * refusal. So it reads the marks of (x, y), (x + 1, y), (x, y + 1), (x - 1, y), (x - 1, y + 1), (x, y - 1)
+ * and (x + 1, y - 1), as far as they exist.
+ * Writes nothing. Answers 0, 1, 2, 4, 7. */
+struct deblock_finals deblock_made_final(size_t w, size_t h, size_t x, size_t y,
+                                         const uint8_t *marks, size_t marks_len);
 
 /* The three strength calls read the 16 blocks of macroblock (x, y), four to the left where x > 0 and four
  * above where y > 0, and write the 32 strengths of the macroblock and no others. t8s is the grid that
@@ -256,9 +288,10 @@ uint32_t deblock_y4m_write(size_t w, size_t h, const uint8_t *luma, size_t luma_
 }
 #endif
 
-/* The first six calls over structs. Start a struct in static storage or as in `struct deblock_picture p =
+/* The first eight calls over structs. Start a struct in static storage or as in `struct deblock_picture p =
  * DEBLOCK_NONE;`, and set its members by name. Members that a later version adds are then 0, which will mean
- * what this version does. How these structs are laid out is no part of the archive; struct deblock_y4m is.
+ * what this version does. How these structs are laid out is no part of the archive; how those that calls
+ * answer are is.
  *
  * A null pointer of length 0 means not lent. A null pointer with another length counts as a wrong length,
  * also where length 0 would do: a call that takes it answers 3, 4 or 5, unless an earlier check applies. */
@@ -281,7 +314,7 @@ struct deblock_picture {
     uint8_t *strengths; size_t strengths_len; /* strength calls write them, filtering reads them */
     const uint8_t *qps; size_t qps_len;
     const uint8_t *t8s; size_t t8s_len; /* strength calls and filtering read them */
-    uint8_t *marks; size_t marks_len; /* for visits alone */
+    uint8_t *marks; size_t marks_len; /* visits write them, and they tell what is final */
 };
 
 /* The 4x4 grids, for strength calls alone. */
@@ -363,6 +396,21 @@ static inline uint32_t deblock_picture_visit(const struct deblock_picture *pictu
                          p.luma, p.luma_len, p.u, p.u_len, p.v, p.v_len,
                          p.strengths, p.strengths_len, p.qps, p.qps_len, p.t8s, p.t8s_len,
                          p.marks, p.marks_len);
+}
+
+/* These two look at w, h and marks alone. */
+static inline struct deblock_finality deblock_picture_is_final(const struct deblock_picture *picture,
+                                                               size_t x, size_t y)
+{
+    const struct deblock_picture p = deblock_picture_lent(*picture);
+    return deblock_is_final(p.w, p.h, x, y, p.marks, p.marks_len);
+}
+
+static inline struct deblock_finals deblock_picture_made_final(const struct deblock_picture *picture,
+                                                               size_t x, size_t y)
+{
+    const struct deblock_picture p = deblock_picture_lent(*picture);
+    return deblock_made_final(p.w, p.h, x, y, p.marks, p.marks_len);
 }
 
 static inline uint32_t deblock_picture_strengths(const struct deblock_picture *picture,

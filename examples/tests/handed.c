@@ -27,6 +27,13 @@ static uint32_t keep(const size_t *arguments, size_t bytes, uint32_t answer)
 
 #define KEEP(answer, ...) \
     { const size_t all[] = {__VA_ARGS__}; return keep(all, sizeof all, answer); }
+#define KEEP_TELLING(type, number, ...) \
+    { \
+        const size_t all[] = {__VA_ARGS__}; \
+        struct type told = DEBLOCK_NONE; \
+        told.answer = keep(all, sizeof all, number); \
+        return told; \
+    }
 #define FILTERING \
     int32_t a, int32_t b, int32_t cu, int32_t cv, \
     uint8_t *y0, size_t yl, uint8_t *u0, size_t ul, uint8_t *v0, size_t vl, \
@@ -47,6 +54,10 @@ uint32_t deblock_rows(size_t w, size_t h, uint8_t part, size_t first, size_t las
 KEEP(102, w, h, part, first, last, FILTERING_KEPT)
 uint32_t deblock_visit(size_t w, size_t h, uint8_t part, size_t x, size_t y, FILTERING, uint8_t *m, size_t ml)
 KEEP(103, w, h, part, x, y, FILTERING_KEPT, at(m), ml)
+struct deblock_finality deblock_is_final(size_t w, size_t h, size_t x, size_t y, const uint8_t *m, size_t ml)
+KEEP_TELLING(deblock_finality, 107, w, h, x, y, at(m), ml)
+struct deblock_finals deblock_made_final(size_t w, size_t h, size_t x, size_t y, const uint8_t *m, size_t ml)
+KEEP_TELLING(deblock_finals, 108, w, h, x, y, at(m), ml)
 uint32_t deblock_strengths(size_t w, size_t h, uint8_t field, size_t x, size_t y, DERIVING)
 KEEP(104, w, h, field, x, y, DERIVING_KEPT)
 uint32_t deblock_strengths_flags(size_t w, size_t h, uint8_t field, size_t x, size_t y, uint8_t flat,
@@ -120,6 +131,8 @@ static void all_lent(void)
            1, 2, 6, 8, 9, 4, 5, 7, 10, 31, 11, 32, 12, 33, 13, 34, 14, 35, 15, 36, 16);
     EXPECT("visit", 103, deblock_picture_visit(&p, 8, 9),
            1, 2, 6, 8, 9, 4, 5, 7, 10, 31, 11, 32, 12, 33, 13, 34, 14, 35, 15, 36, 16, 37, 17);
+    EXPECT("is final", 107, deblock_picture_is_final(&p, 8, 9).answer, 1, 2, 8, 9, 37, 17);
+    EXPECT("made final", 108, deblock_picture_made_final(&p, 8, 9).answer, 1, 2, 8, 9, 37, 17);
     EXPECT("strengths", 104, deblock_picture_strengths(&p, &g, 8, 9),
            1, 2, 1, 8, 9, 36, 16, 41, 21, 42, 22, 43, 23, 44, 24, 45, 25, 46, 26, 34, 14);
     EXPECT("kind", 106, deblock_picture_strengths_kind(&p, &g, 8, 9, 18),
@@ -153,6 +166,8 @@ static void all_null(void)
     const struct deblock_picture p = numbered_lengths();
     const struct deblock_grids g = numbered_grid_lengths();
     EXPECT("null members", 103, deblock_picture_visit(&p, 8, 9), 1, 2, 6, 8, 9, 4, 5, 7, 10);
+    EXPECT("null marks", 107, deblock_picture_is_final(&p, 8, 9).answer, 1, 2, 8, 9);
+    EXPECT("null marks", 108, deblock_picture_made_final(&p, 8, 9).answer, 1, 2, 8, 9);
     EXPECT("null grids", 104, deblock_picture_strengths(&p, &g, 8, 9), 1, 2, 1, 8, 9);
     EXPECT("no grids", 104, deblock_picture_strengths(&p, &none, 8, 9), 1, 2, 1, 8, 9);
 }

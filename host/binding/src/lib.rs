@@ -1,9 +1,10 @@
 //! The deblocking filter of the survey station: a safe binding over the archive of the proved code.
 //!
-//! A [`Picture`] holds what stays the same throughout a picture and borrows its memory. Its six methods are
-//! the calls of the archive that derive strengths and filter; each answers an [`Answer`]. What goes into the
-//! buffers stands in docs/RULES.md, "Sizes and layouts". The module [`y4m`] has the other four calls, which
-//! read and write pictures kept as YUV4MPEG2 streams.
+//! A [`Picture`] holds what stays the same throughout a picture and borrows its memory. Its eight methods are
+//! the calls of the archive that derive strengths and filter, each of which answers an [`Answer`], and those
+//! that tell which macroblocks are final, where the answer is the error. What goes into the buffers stands in
+//! docs/RULES.md, "Sizes and layouts". The module [`y4m`] has the other four calls, which read and write
+//! pictures kept as YUV4MPEG2 streams.
 //!
 //! # From grids to planes
 //!
@@ -51,9 +52,9 @@
 //!
 //! What is not ready waits, and is asked for again once another was visited. In whatever order all
 //! macroblocks arrive, this ends with the whole picture, and with the samples of raster order. A macroblock
-//! may be shown once it and its right and lower neighbours, as far as they exist, are marked: no later visit
-//! changes it. A whole station, which stores slices, derives strengths and shows what is final, is
-//! `host/binding/examples/slices`.
+//! may be shown once no later visit changes it; after a visit [`Picture::made_final`] tells of which
+//! macroblocks that has become true. A whole station, which stores slices, derives strengths and shows what
+//! is final, is `host/binding/examples/slices`.
 //!
 //! ```
 //! use deblock::{Answer, Picture, Place, Size};
@@ -143,8 +144,8 @@
 //!   are, a call ends and answers.
 //! - No call allocates, waits, takes a lock, or keeps what it was lent. The archive has no state of its own.
 //! - So the calls are re-entrant, and pictures on several threads may be filtered at the same time; a
-//!   `Picture` is `Send` and `Sync`. Two calls on one picture are never made at once, since each borrows the
-//!   picture mutably.
+//!   `Picture` is `Send` and `Sync`. No call is made on a picture while another writes it, since what writes
+//!   borrows the picture mutably.
 //!
 //! # How to link
 //!
@@ -157,6 +158,7 @@
 #![deny(missing_docs)]
 
 mod answer;
+mod finals;
 mod lent;
 mod picture;
 pub mod y4m;
@@ -165,5 +167,6 @@ pub mod y4m;
 pub mod wire;
 
 pub use answer::Answer;
+pub use finals::Finals;
 pub use lent::{Flags, Grids, Kind, Offsets, Part, Place, Size};
 pub use picture::Picture;

@@ -1,6 +1,6 @@
-//! A picture and the six calls on it.
+//! A picture and the eight calls on it.
 
-use crate::{wire, Answer, Flags, Grids, Kind, Offsets, Part, Place, Size};
+use crate::{wire, Answer, Finals, Flags, Grids, Kind, Offsets, Part, Place, Size};
 use std::ops::Range;
 
 /// What stays the same throughout a picture, and the memory that its calls are lent.
@@ -60,6 +60,45 @@ impl Picture<'_> {
     /// until then it answers [`Answer::NotReady`].
     pub fn visit(&mut self, at: Place) -> Answer {
         Answer::of(wire::visit(self, self.part as u8, at))
+    }
+
+    /// Whether a macroblock is final, which means that it and its right and lower neighbours, as far as they
+    /// exist, are marked. No later visit changes a sample of it, so it may be shown. This reads `size` and
+    /// `marks` alone. It asks, in this order, for [`Answer::BadSize`], [`Answer::Outside`],
+    /// [`Answer::MacroblockGridLength`] and [`Answer::NotABool`].
+    pub fn is_final(&self, at: Place) -> Result<bool, Answer> {
+        let told = wire::is_final(self.size, at, self.marks);
+        Answer::of(told.answer).ok()?;
+        Ok(told.yes != 0)
+    }
+
+    /// Asks what [`Picture::is_final`] does, of a macroblock and of its left and upper neighbours, as far as
+    /// they exist: no others can become final with a visit of it, and before it none of them was. The first
+    /// refusal of the three is the error. Asked after each visit that is done, this tells each macroblock of
+    /// the picture once:
+    ///
+    /// ```
+    /// use deblock::{Answer, Finals, Picture, Place, Size};
+    ///
+    /// let mut picture = Picture {
+    ///     size: Size { w: 2, h: 1 },
+    ///     luma: &mut [90; 512],
+    ///     u: &mut [90; 128],
+    ///     v: &mut [90; 128],
+    ///     strengths: &mut [3; 64],
+    ///     qps: &[40; 2],
+    ///     marks: &mut [0; 2],
+    ///     ..Picture::default()
+    /// };
+    /// let [first, second] = [0, 1].map(|x| Place { x, y: 0 });
+    /// picture.visit(first).ok()?;
+    /// assert_eq!(picture.made_final(first)?, Finals::default()); // the next visit may change it
+    /// picture.visit(second).ok()?;
+    /// assert_eq!(picture.made_final(second)?.places(second).collect::<Vec<_>>(), [first, second]);
+    /// # Ok::<(), Answer>(())
+    /// ```
+    pub fn made_final(&self, at: Place) -> Result<Finals, Answer> {
+        Finals::of(wire::made_final(self.size, at, self.marks))
     }
 
     /// Writes the 32 strengths of a macroblock of which nothing is known. It reads the grids of the

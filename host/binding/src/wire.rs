@@ -1,4 +1,4 @@
-//! The ten calls as the archive has them: numbers in, numbers out (docs/RULES.md, "Answers"). For a caller
+//! The twelve calls as the archive has them: numbers in, numbers out (docs/RULES.md, "Answers"). For a caller
 //! who must pass on a part, a kind or a flag as the byte that it is; [`Picture`] and [`y4m`](crate::y4m) have
 //! the same calls with types.
 //!
@@ -22,6 +22,30 @@ pub struct Y4m {
     pub w: u32,
     /// Likewise its height.
     pub h: u32,
+}
+
+/// Whether a macroblock is final, laid out as `struct deblock_finality` of include/deblock.h.
+#[repr(C)]
+#[derive(Clone, Copy, PartialEq, Eq, Debug)]
+pub struct Finality {
+    /// The answer.
+    pub answer: u32,
+    /// 1 where the answer is 0 and the macroblock is final, else 0.
+    pub yes: u8,
+}
+
+/// What a visit can have made final, laid out as `struct deblock_finals` of include/deblock.h.
+#[repr(C)]
+#[derive(Clone, Copy, PartialEq, Eq, Debug)]
+pub struct Finals {
+    /// The answer.
+    pub answer: u32,
+    /// 1 where the answer is 0 and the macroblock is final, else 0.
+    pub own: u8,
+    /// Likewise its left neighbour; 0 where there is none.
+    pub left: u8,
+    /// Likewise its upper neighbour.
+    pub upper: u8,
 }
 
 mod c {
@@ -71,6 +95,12 @@ mod c {
             strengths: *const u8, strengths_len: usize, qps: *const u8, qps_len: usize,
             t8s: *const u8, t8s_len: usize, marks: *mut u8, marks_len: usize,
         ) -> u32;
+        pub fn deblock_is_final(
+            w: usize, h: usize, x: usize, y: usize, marks: *const u8, marks_len: usize,
+        ) -> super::Finality;
+        pub fn deblock_made_final(
+            w: usize, h: usize, x: usize, y: usize, marks: *const u8, marks_len: usize,
+        ) -> super::Finals;
         pub fn deblock_y4m_look(stream: *const u8, stream_len: usize) -> super::Y4m;
         pub fn deblock_y4m_read(
             stream: *const u8, stream_len: usize,
@@ -170,6 +200,18 @@ pub fn visit(p: &mut Picture, part: u8, at: Place) -> u32 {
     }
 }
 
+/// Whether a macroblock is final.
+pub fn is_final(size: Size, at: Place, marks: &[u8]) -> Finality {
+    // SAFETY: the pointer and the length are a slice's, and nothing is written.
+    unsafe { c::deblock_is_final(size.w, size.h, at.x, at.y, marks.as_ptr(), marks.len()) }
+}
+
+/// Which of a macroblock and its left and upper neighbours are final.
+pub fn made_final(size: Size, at: Place, marks: &[u8]) -> Finals {
+    // SAFETY: as above.
+    unsafe { c::deblock_made_final(size.w, size.h, at.x, at.y, marks.as_ptr(), marks.len()) }
+}
+
 /// How large the first picture of a stream is.
 pub fn y4m_look(stream: &[u8]) -> Y4m {
     // SAFETY: the pointer and the length are a slice's, and nothing is written.
@@ -208,6 +250,14 @@ pub fn y4m_write(size: Size, luma: &[u8], u: &[u8], v: &[u8], stream: &mut [u8])
 #[cfg(test)]
 mod tests {
     use super::*;
+    use std::mem::offset_of;
+
+    #[test]
+    fn structs_are_laid_out_as_in_the_header() {
+        assert_eq!([size_of::<Y4m>(), size_of::<Finality>(), size_of::<Finals>()], [12, 8, 8]);
+        assert_eq!([offset_of!(Finality, answer), offset_of!(Finality, yes)], [0, 4]);
+        assert_eq!([offset_of!(Finals, own), offset_of!(Finals, left), offset_of!(Finals, upper)], [4, 5, 6]);
+    }
 
     /// A part above 2 is refused with 19: before the planes' lengths, and after a place outside.
     #[test]

@@ -16,7 +16,8 @@ struct Station {
     buffers: Buffers,
     arrived: [bool; N],
     derived: [bool; N],
-    shown: [bool; N],
+    /// How often each macroblock was shown.
+    shown: [u32; N],
     screen: Planes,
 }
 
@@ -24,7 +25,7 @@ impl Station {
     /// Nothing leans on what the memory held.
     fn new() -> Station {
         let (buffers, none) = (Buffers::filled(255), [false; N]);
-        Station { screen: buffers.planes.clone(), buffers, arrived: none, derived: none, shown: none }
+        Station { screen: buffers.planes.clone(), buffers, arrived: none, derived: none, shown: [0; N] }
     }
 
     /// All of these are 0 at first, by the guide: a visit that is not ready may look at strengths that are
@@ -37,7 +38,7 @@ impl Station {
         self.buffers.marks.fill(0);
         self.arrived.fill(false);
         self.derived.fill(false);
-        self.shown.fill(false);
+        self.shown.fill(0);
     }
 
     /// Stores macroblock `at` when it arrives, and not again: by then its samples may be filtered ones.
@@ -77,44 +78,36 @@ impl Station {
     /// ready comes later in raster order. The rest goes on waiting: so does a macroblock while its strengths
     /// are not derived, since its left or upper neighbour is unmarked then.
     fn visit(&mut self) -> Result<(), Answer> {
-        let (mut picture, _) = self.buffers.lend();
-        for at in SIZE.places().filter(|&at| self.arrived[SIZE.index(at)]) {
-            match picture.visit(at) {
+        let arrived = self.arrived;
+        for at in SIZE.places().filter(|&at| arrived[SIZE.index(at)]) {
+            match self.buffers.lend().0.visit(at) {
                 Answer::NotReady | Answer::MarkedAlready => {}
-                answer => answer.ok()?,
+                Answer::Done => self.show(at)?,
+                refusal => return Err(refusal),
             }
         }
         Ok(())
     }
 
-    /// Whether no later visit touches a macroblock: it, its right and its lower neighbour are marked, as far
-    /// as they exist.
-    fn is_final(&self, Place { x, y }: Place) -> bool {
-        let marked = |x, y| x == SIZE.w || y == SIZE.h || self.buffers.marks[SIZE.index(Place { x, y })] == 1;
-        marked(x, y) && marked(x + 1, y) && marked(x, y + 1)
-    }
-
-    /// Shows each macroblock once, when it is final.
-    fn show(&mut self) {
-        for at in SIZE.places() {
-            if !self.shown[SIZE.index(at)] && self.is_final(at) {
-                self.shown[SIZE.index(at)] = true;
-                copy_samples(&mut self.screen, &self.buffers.planes, at);
-            }
+    /// Shows what the visit of a macroblock has made final: so each is shown once.
+    fn show(&mut self, visited: Place) -> Result<(), Answer> {
+        let made = self.buffers.lend().0.made_final(visited)?;
+        for at in made.places(visited) {
+            self.shown[SIZE.index(at)] += 1;
+            copy_samples(&mut self.screen, &self.buffers.planes, at);
         }
+        Ok(())
     }
 
     fn arrive(&mut self, sent: &Buffers, slice: &[Place]) -> Result<(), Answer> {
         slice.iter().for_each(|&at| self.store(sent, at));
         self.derive()?;
-        self.visit()?;
-        self.show();
-        Ok(())
+        self.visit()
     }
 
     fn letter(&self, i: usize) -> char {
         match (self.shown[i], self.buffers.marks[i], self.arrived[i]) {
-            (true, ..) => 's',
+            (1.., ..) => 's',
             (_, 1, _) => 'm',
             (.., true) => 'w',
             _ => '.',
@@ -137,6 +130,7 @@ impl Station {
         whole.lend().0.whole().ok()?;
         must(rows.planes == whole.planes, "rows from the top give other planes")?;
         must(self.buffers.planes == whole.planes, "visits give other planes")?;
+        must(self.shown == [1; N], "a macroblock was not shown just once")?;
         must(self.screen == whole.planes, "the screen is not as the planes are")
     }
 }

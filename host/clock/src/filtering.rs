@@ -5,8 +5,9 @@
 //! which other programs on the machine do not add to. What counts is the ratio of two times on the SAME
 //! picture, and its median over all pictures: a machine whose pace drifts during the run moves both times of
 //! a picture and hardly their ratio. The filtered planes are compared as well. A frame as two fields, which
-//! the original cannot filter, is timed beside the original's whole frame, without a bound. So is the
-//! archive's whole picture with two chroma offsets, beside its own with one for both planes.
+//! the original cannot filter, is timed beside the original's whole frame, without a bound. So are visits
+//! with the question after each what it has made final, beside visits alone, and the archive's whole picture
+//! with two chroma offsets, beside its own with one for both planes.
 
 mod picture;
 mod ways;
@@ -46,10 +47,10 @@ struct Subject {
 pub fn clock(pictures: usize) -> ExitCode {
     println!("{pictures} pictures of {} by {} of each content, CPU time in microseconds a picture", 16 * W, 16 * H);
     println!(
-        "                 whole    of the Rust's time, bound   visits, of the Rust's   of the whole's      two fields,"
+        "                 whole    of the Rust's time, bound   visits, of the Rust's   of the whole's      two fields,  raster, asked,"
     );
     println!(
-        "          Rust  picture      whole picture           raster   wavefront    raster  wavefront  of the Rust's"
+        "          Rust  picture      whole picture           raster   wavefront    raster  wavefront  of the Rust's     of raster's"
     );
     let within = SUBJECTS.map(|subject| subject.clock(pictures)).iter().all(|&within| within);
     println!("mixed, whole picture, chroma offsets 1 and -1: {:.3} of its time with 0 and 0", two_offsets(pictures));
@@ -70,7 +71,7 @@ impl Subject {
         let micros = |a: Way| 1e6 * median(times.iter().map(|t| t[a as usize]).collect());
         let [whole, raster, wavefront] = [Way::Whole, Way::Raster, Way::Wavefront].map(|way| over(way, Way::Original));
         println!(
-            "{:<6}{:>8.0}{:>9.0}{whole:>12.3}{:>8.2}{raster:>17.3}{wavefront:>12.3}{:>10.2}{:>11.2}{:>15.3}",
+            "{:<6}{:>8.0}{:>9.0}{whole:>12.3}{:>8.2}{raster:>17.3}{wavefront:>12.3}{:>10.2}{:>11.2}{:>15.3}{:>16.3}",
             self.name,
             micros(Way::Original),
             micros(Way::Whole),
@@ -78,6 +79,7 @@ impl Subject {
             over(Way::Raster, Way::Whole),
             over(Way::Wavefront, Way::Whole),
             over(Way::Fields, Way::Original),
+            over(Way::Asked, Way::Raster),
         );
         whole <= self.bound && raster.max(wavefront) <= VISITS_BOUND
     }

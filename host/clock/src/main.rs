@@ -16,8 +16,9 @@ const SIZE: Size = Size { w: W, h: H };
 const HELP: &str = "clock [PICTURES]: the proved archive against the Rust original on pictures of 720 by 576
 with stored strengths, PICTURES of each content (300 or more; 300 without). Ratios are medians over the
 pictures, each of two times on one picture. Exit status 0: every ratio to the original is within its bound.
-That of two fields, to the original's whole frame of the same samples, has none, nor has that of two chroma
-offsets, to the archive's own whole picture with one.
+That of two fields, to the original's whole frame of the same samples, has none, nor has that of visits in
+raster order with the question after each what it has made final, to these visits alone, nor that of two
+chroma offsets, to the archive's own whole picture with one.
 
 clock strengths [PICTURES]: the three strength calls likewise, on every macroblock of such pictures, PICTURES
 of each content (20 or more; 100 without). They have no bound: the exit status is 0.";

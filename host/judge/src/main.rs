@@ -1,12 +1,15 @@
-//! Compares the proved archive with the Rust original, in fields, under 8x8 flags, with two chroma offsets
-//! and in streams with models, every answer and every lent byte.
+//! Compares the proved archive with the Rust original, in fields, under 8x8 flags, with two chroma offsets,
+//! in what is final and in streams with models, every answer and every lent byte.
 
 mod arrivals;
 mod counts;
+#[cfg(test)]
+mod damage_tests;
 mod differences;
 mod expect;
 mod fault;
 mod fence;
+mod finality;
 mod make;
 mod mistakes;
 mod model;
@@ -40,15 +43,15 @@ use subject::Archive;
 
 const HELP: &str = "judge: compares the proved archive with the Rust original, every answer and every lent byte,
 and in what the original does not have, fields, coefficients of 8x8 blocks and a chroma offset of V's own, with
-a model of the rules that agrees with the original; streams, which it does not have either, with a reading of
-them that was written on its own
+a model of the rules that agrees with the original; streams and what is final, which it does not have either,
+with a reading of the rules that was written on its own
 
   judge bounded [SEED]       all small cases, then 80 rounds of random ones: about a minute
   judge long SECONDS [SEED]  all small cases, then rounds until the time is over
   judge streams [SEED]       what of `bounded` is about streams
   judge round SEED           one round again, to replay a mismatch
-  judge mutants              runs wrong filters, and wrong readers and writers of streams, through the same
-                             comparison: all must be caught
+  judge mutants              runs wrong filters, wrong rules of what is final, and wrong readers and writers
+                             of streams through the same comparison: all must be caught
   judge differences          prints the tables of docs/DIFFERENCES.md, having run each row: what the
                              original does where the archive refuses, and the other differences
   judge arrivals             prints what crates/arrivals must print
@@ -109,7 +112,7 @@ enum About {
     Streams,
 }
 
-/// What was compared so far, of pictures and of streams.
+/// What was compared so far, of pictures, with them of what is final, and of streams.
 struct Compared<'a> {
     about: About,
     pictures: Session<'a>,
@@ -125,6 +128,7 @@ impl<'a> Compared<'a> {
     fn small(&mut self) -> Outcome {
         if self.about == About::All {
             small::run(&mut self.pictures, 1)?;
+            finality::small(&mut self.pictures.finality)?;
         }
         streams::small(&mut self.streams)
     }
@@ -133,7 +137,7 @@ impl<'a> Compared<'a> {
     fn round(&mut self, seed: u64) -> bool {
         fault::in_round(seed);
         let pictures = match self.about {
-            About::All => rounds::round(&mut self.pictures, seed, Depth::Full),
+            About::All => self.pictures_round(seed),
             About::Streams => Ok(()),
         };
         match pictures.and_then(|()| streams::round(&mut self.streams, seed, Depth::Full)) {
@@ -145,27 +149,35 @@ impl<'a> Compared<'a> {
         }
     }
 
+    fn pictures_round(&mut self, seed: u64) -> Outcome {
+        rounds::round(&mut self.pictures, seed, Depth::Full)?;
+        finality::round(&mut self.pictures.finality, seed, Depth::Full)
+    }
+
     /// How many were compared.
     fn calls(&self) -> String {
         let [frames, fields] = [Structure::Frame, Structure::Field].map(|of| self.pictures.calls(of));
-        let streams = self.streams.calls();
-        let all = frames + fields + streams;
-        format!("{all} calls ({frames} about frames, {fields} about fields, {streams} about streams)")
+        let (finality, streams) = (self.pictures.finality.calls(), self.streams.calls());
+        let all = frames + fields + finality + streams;
+        let pictures = format!("{frames} about frames, {fields} about fields, {finality} about what is final");
+        format!("{all} calls ({pictures}, {streams} about streams)")
     }
 
     fn print(&self) {
         if self.about == About::All {
             self.pictures.print();
+            self.pictures.finality.print();
         }
         self.streams.print();
     }
 
-    /// The numbers that no call about pictures, or none about streams, has answered.
+    /// The numbers that no call about pictures, none about what is final, or none about streams has answered.
     fn unseen(&self) -> Vec<u32> {
-        let pictures = table::numbers().filter(|_| self.about == About::All);
-        let pictures = pictures.filter(|&number| self.pictures.answered(number) == 0);
+        let (about, finality) = (self.about, &self.pictures.finality);
+        let pictures = table::numbers().filter(|&number| self.pictures.answered(number) == 0);
+        let finals = finality::NUMBERS.into_iter().filter(|&number| finality.answered(number) == 0);
         let streams = streams::NUMBERS.into_iter().filter(|&number| self.streams.answered(number) == 0);
-        pictures.chain(streams).collect()
+        pictures.chain(finals).filter(|_| about == About::All).chain(streams).collect()
     }
 }
 

@@ -1,5 +1,6 @@
 //! Wrong filters, and how many of them the comparison catches.
 
+use crate::finality;
 use crate::model::Model;
 use crate::rounds::{self, Depth};
 use crate::session::{Outcome, Session};
@@ -132,11 +133,13 @@ const FILTERS: Kind = Kind {
     at_fault: "the model without a mistake is not equal to the Rust original: the judge is at fault",
 };
 
-/// Runs all wrong filters, and all wrong readers and writers of streams. True if all is as it must be.
+/// Runs all wrong filters, all wrong rules of what is final, and all wrong readers and writers of streams.
+/// True if all is as it must be.
 pub fn run() -> bool {
     let filters = all_caught(&FILTERS, MISTAKES, trial);
+    let finality = finality::all_caught();
     let streams = streams::all_caught();
-    filters && streams
+    filters && finality && streams
 }
 
 /// Tries the one without a mistake, which must pass, and every wrong one, which must not. True if all is so.

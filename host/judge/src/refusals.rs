@@ -82,7 +82,7 @@ fn damages(of: Structure) -> Vec<(u32, Damage)> {
 }
 
 /// Sides that are too large, whose products and sums overflow.
-const HUGE: [usize; 8] = [0, 257, usize::MAX, 1 << 63, (1 << 63) + 1, 1 << 32, 1 << 56, usize::MAX / 32 + 2];
+pub const HUGE: [usize; 8] = [0, 257, usize::MAX, 1 << 63, (1 << 63) + 1, 1 << 32, 1 << 56, usize::MAX / 32 + 2];
 
 /// Offsets that are out of range, just so and by far.
 const FAR_OFFSETS: [i32; 6] = [-13, 13, i32::MIN, i32::MAX, 255, -256];
@@ -134,7 +134,7 @@ fn good(r: &mut Rng, of: Structure, call: Call, area: usize) -> Request {
 }
 
 /// One short, one long, empty, a single one, twice or half as long.
-fn spoil_length<T: Lent + Default>(r: &mut Rng, b: &mut Buffer<T>) {
+pub fn spoil_length<T: Lent + Default>(r: &mut Rng, b: &mut Buffer<T>) {
     let len = b.len();
     let other = r.pick(&[len.saturating_sub(1), len + 1, 0, 1, 2 * len, len / 2]);
     b.resize(other, T::default());

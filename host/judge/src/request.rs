@@ -2,7 +2,7 @@
 
 use std::ops::{Deref, DerefMut};
 
-/// The six calls of the archive.
+/// The six calls of the archive that derive strengths and filter.
 #[derive(Clone, Copy, PartialEq, Eq, PartialOrd, Ord, Debug)]
 pub enum Call {
     Kind,

@@ -2,6 +2,7 @@
 
 use crate::counts::Counts;
 use crate::expect::{expect, second_opinion};
+use crate::finality;
 use crate::original;
 use crate::request::{Call, Request, Structure};
 use crate::shrink;
@@ -33,6 +34,8 @@ pub struct Session<'a> {
     others: BTreeMap<&'static str, u64>,
     /// Calls that were done as the original decides.
     by_original: u64,
+    /// What is compared of the calls that tell what is final.
+    pub finality: finality::Session<'a>,
 }
 
 /// Of so many calls that the original decides, the model is asked about one. The original is asked about
@@ -42,7 +45,8 @@ const MODEL_ASKED: u64 = 8;
 impl<'a> Session<'a> {
     pub fn new(subject: &'a dyn Subject, thorough: bool) -> Self {
         let (counts, others) = (Counts::new(), BTreeMap::new());
-        Session { subject, thorough, of: Structure::Frame, counts, others, by_original: 0 }
+        let finality = finality::Session::new(subject.finality(), thorough);
+        Session { subject, thorough, of: Structure::Frame, counts, others, by_original: 0, finality }
     }
 
     /// From now on runs are about frames, or about fields: a field's part may be wrong, and be that of a

@@ -33,31 +33,33 @@ pub fn smallest(r: &Request, fails: impl Fn(&Request) -> bool) -> Request {
     best
 }
 
-/// The case with a half or one column or row of macroblocks less, where its lengths are those of its size.
+/// The case with fewer macroblocks, where its lengths are those of its size.
 fn crops(r: &Request) -> Vec<Request> {
-    let (w, h) = (r.w, r.h);
+    areas(r.w, r.h).into_iter().filter_map(|area| crop(r, area)).collect()
+}
+
+/// Areas with a half or one column or row of macroblocks less: the columns from the first number on and
+/// before the second, likewise the rows.
+pub fn areas(w: usize, h: usize) -> Vec<[usize; 4]> {
     if !(1..=256).contains(&w) || !(1..=256).contains(&h) {
         return Vec::new();
     }
     let areas = [
-        (0, w / 2, 0, h),
-        (w / 2, w, 0, h),
-        (0, w, 0, h / 2),
-        (0, w, h / 2, h),
-        (1, w, 0, h),
-        (0, w - 1, 0, h),
-        (0, w, 1, h),
-        (0, w, 0, h - 1),
+        [0, w / 2, 0, h],
+        [w / 2, w, 0, h],
+        [0, w, 0, h / 2],
+        [0, w, h / 2, h],
+        [1, w, 0, h],
+        [0, w - 1, 0, h],
+        [0, w, 1, h],
+        [0, w, 0, h - 1],
     ];
-    areas.into_iter().filter_map(|(x0, x1, y0, y1)| crop(r, [x0, x1, y0, y1])).collect()
+    areas.into_iter().filter(|[x0, x1, y0, y1]| x0 < x1 && y0 < y1 && (x1 - x0, y1 - y0) != (w, h)).collect()
 }
 
 fn crop(r: &Request, area: [usize; 4]) -> Option<Request> {
     let [x0, x1, y0, y1] = area;
     let (w, h) = (x1 - x0, y1 - y0);
-    if w == 0 || h == 0 || (w, h) == (r.w, r.h) {
-        return None;
-    }
     let mut c = r.clone();
     (c.w, c.h) = (w, h);
     let has_place = !matches!(r.call, Call::Whole | Call::Rows);
@@ -84,7 +86,7 @@ fn crop(r: &Request, area: [usize; 4]) -> Option<Request> {
 }
 
 /// Keeps the area of a grid with `cell.0` by `cell.1` entries a macroblock.
-fn cut<T: Lent>(b: &mut Buffer<T>, w: usize, h: usize, cell: (usize, usize), area: [usize; 4]) -> Option<()> {
+pub fn cut<T: Lent>(b: &mut Buffer<T>, w: usize, h: usize, cell: (usize, usize), area: [usize; 4]) -> Option<()> {
     let [x0, x1, y0, y1] = area;
     let row = w * cell.0;
     if b.is_empty() {

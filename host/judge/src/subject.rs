@@ -1,6 +1,7 @@
 //! What is judged: the archive, or a filter that stands in its place.
 
 use crate::fence::{Fenced, Side};
+use crate::finality::{Finality, Rule};
 use crate::request::{Call, Request};
 use deblock::{wire, Grids, Offsets, Picture, Place, Size};
 use std::cell::{Cell, RefCell, RefMut};
@@ -8,6 +9,11 @@ use std::cell::{Cell, RefCell, RefMut};
 pub trait Subject {
     /// Makes the call on the request's own memory and gives its answer.
     fn call(&self, r: &mut Request) -> u32;
+
+    /// What is asked what is final: beside a filter that is not the archive, the rule without a mistake.
+    fn finality(&self) -> &dyn Finality {
+        &Rule { mistake: None }
+    }
 }
 
 /// The proved filter. Of three calls one is made between guard elements, two between fences.
@@ -70,5 +76,9 @@ impl Subject for Archive {
             Call::Rows => wire::rows(&mut picture, r.part, r.first, r.last),
             Call::Visit => wire::visit(&mut picture, r.part, at),
         }
+    }
+
+    fn finality(&self) -> &dyn Finality {
+        self
     }
 }

@@ -39,8 +39,13 @@ pub fn numbers() -> impl Iterator<Item = u32> {
 }
 
 fn size_out_of_range(r: &Request) -> bool {
+    !is_size(r.w, r.h)
+}
+
+/// Whether a picture may be so large.
+pub fn is_size(w: usize, h: usize) -> bool {
     let side = 1..=256;
-    !side.contains(&r.w) || !side.contains(&r.h) || r.w * r.h > 36_864
+    side.contains(&w) && side.contains(&h) && w * h <= 36_864
 }
 
 fn place_outside(r: &Request) -> bool {

@@ -2,6 +2,7 @@
 //! raster order. The two fields of a frame are two pictures, whose visits come mixed.
 
 use crate::expect::{expect, marked_in_raster_order};
+use crate::finality::Watch;
 use crate::make;
 use crate::request::{Call, Request, Structure};
 use crate::session::{Failure, Outcome, Session};
@@ -44,10 +45,22 @@ impl Pictures {
         (q.part, (q.x, q.y)) = (ask.part, ask.at);
         q
     }
+
+    /// The pictures with just the marked macroblocks visited, in raster order.
+    fn marked(&self, marks: &[Vec<u8>]) -> Pictures {
+        let mut all = self.clone();
+        for (i, marks) in marks.iter().enumerate() {
+            let own = all.lend(i);
+            marked_in_raster_order(own, marks);
+            own.marks.copy_from_slice(marks);
+        }
+        all
+    }
 }
 
 /// Whole pictures by visits. Every answer is compared; the planes are compared after every call of small
-/// pictures, and now and then in large ones.
+/// pictures, and now and then in large ones. After each visit that is done, in the largest pictures after one
+/// of many, what it has made final is asked.
 pub fn sequence(s: &mut Session, r: &mut Rng, of: Structure, w: usize, h: usize) -> Outcome {
     let all = (0..of.share()).map(|i| {
         let mut q = make::picture(r, of, Call::Visit, w, h);
@@ -63,11 +76,16 @@ pub fn sequence(s: &mut Session, r: &mut Rng, of: Structure, w: usize, h: usize)
     follow(s, &before, &order).map_err(|failure| explain(s, &before, &order, failure))
 }
 
+/// In pictures of so many macroblocks not every visit is followed by the question what it has made final.
+const MANY: usize = 2000;
+
 fn follow(s: &mut Session, before: &Pictures, order: &[Ask]) -> Outcome {
     let n = before.all[0].marks.len();
     let every = if n <= 36 { 1 } else { n / 5 };
     let mut lent = before.clone();
     let mut marks: Vec<Vec<u8>> = before.all.iter().map(|q| q.marks.to_vec()).collect();
+    let whole = before.marked(&vec![vec![1; n]; marks.len()]).lend(0).clone();
+    let mut watch = Watch::new(whole, marks.len());
     for (i, &ask) in order.iter().enumerate() {
         let q = lent.ask(ask);
         let number = table::answer(q);
@@ -78,6 +96,9 @@ fn follow(s: &mut Session, before: &Pictures, order: &[Ask]) -> Outcome {
         if i % every == 0 || i + 1 == order.len() {
             compare(s, before, q, ask.picture, &marks)?;
         }
+        if number == 0 {
+            watch.visited(&mut s.finality, q, ask.picture, i % (n / MANY + 1) == 0)?;
+        }
     }
     assert!(!marks.concat().contains(&0), "the order of visits has every macroblock");
     Ok(())
@@ -85,12 +106,7 @@ fn follow(s: &mut Session, before: &Pictures, order: &[Ask]) -> Outcome {
 
 /// Compares the picture that holds the planes, and so all of them, with the visited ones in raster order.
 fn compare(s: &mut Session, before: &Pictures, q: &Request, picture: usize, marks: &[Vec<u8>]) -> Outcome {
-    let mut want = before.clone();
-    for (i, marks) in marks.iter().enumerate() {
-        let own = want.lend(i);
-        marked_in_raster_order(own, marks);
-        own.marks.copy_from_slice(marks);
-    }
+    let mut want = before.marked(marks);
     s.note(match before.all[0].structure() {
         Structure::Frame => "frames after visits, compared with the visited ones in raster order",
         Structure::Field => "pairs of fields after visits, compared with the visited ones in raster order",

@@ -101,6 +101,7 @@ fn main() {
         filtering(&show, part);
         strengths(&show, part, grids);
     }
+    finality(&show);
     streams(&show);
     show("the Rust's whole picture", original());
     original_strengths(&show, grids);
@@ -117,6 +118,14 @@ fn filtering(show: &dyn Fn(&str, usize), part: Part) {
             assert!(p.visit(LAST).is_done());
         })
     });
+}
+
+/// Which part it is does not matter to these.
+fn finality(show: &dyn Fn(&str, usize)) {
+    let mut memory = Memory { marks: [1; 4], ..Memory::new(Part::Frame) };
+    let p = memory.lent();
+    show("is it final", deepest(|| assert_eq!(p.is_final(LAST), Ok(true))));
+    show("what a visit made final", deepest(|| assert!(p.made_final(LAST).is_ok_and(|made| made.own))));
 }
 
 /// Of a stream that holds the frame.

@@ -24,8 +24,8 @@ impl Picture {
     }
 
     /// The seconds of each way; `turn` says which comes first.
-    pub fn times(&self, turn: usize) -> [f64; 5] {
-        let mut times = [0.0; 5];
+    pub fn times(&self, turn: usize) -> [f64; Way::ALL.len()] {
+        let mut times = [0.0; Way::ALL.len()];
         let mut first: Option<[Vec<u8>; 3]> = None;
         for i in 0..Way::ALL.len() {
             let way = Way::ALL[(turn + i) % Way::ALL.len()];

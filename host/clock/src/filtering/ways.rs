@@ -15,25 +15,28 @@ pub enum Way {
     Raster,
     /// .. and by diagonals on which all are ready at once.
     Wavefront,
+    /// Those in raster order, and after each the question what it has made final.
+    Asked,
     /// The archive's whole-picture call on each field of a frame of the same samples, which gives other
     /// samples. The top field has the upper half's strengths, QPs and flags, the bottom field the lower's.
     Fields,
 }
 
 impl Way {
-    pub const ALL: [Way; 5] = [Way::Original, Way::Whole, Way::Raster, Way::Wavefront, Way::Fields];
+    pub const ALL: [Way; 6] = [Way::Original, Way::Whole, Way::Raster, Way::Wavefront, Way::Asked, Way::Fields];
 
     /// The seconds that filtering takes. What it needs beside the planes is made before the clock starts.
     pub fn seconds(self, picture: &Picture, planes: &mut [Vec<u8>; 3]) -> f64 {
         match self {
             Way::Original => original(picture, planes),
             Way::Whole => whole(picture, planes, [0; 2]),
-            Way::Raster => visits(picture, planes, SIZE.places().collect()),
+            Way::Raster => visits(picture, planes, SIZE.places().collect(), |_, _| ()),
             Way::Wavefront => {
                 let mut order: Vec<Place> = SIZE.places().collect();
                 order.sort_by_key(|p| p.x + 2 * p.y);
-                visits(picture, planes, order)
+                visits(picture, planes, order, |_, _| ())
             }
+            Way::Asked => visits(picture, planes, SIZE.places().collect(), ask),
             Way::Fields => fields(picture, planes),
         }
     }
@@ -53,8 +56,23 @@ pub fn whole(picture: &Picture, planes: &mut [Vec<u8>; 3], [chroma_u, chroma_v]:
     })
 }
 
-fn visits(picture: &Picture, planes: &mut [Vec<u8>; 3], order: Vec<Place>) -> f64 {
-    archive(picture, planes, |lent| order.iter().for_each(|&at| assert!(lent.visit(at).is_done())))
+/// Visits in this order, with `then` after each.
+fn visits(
+    picture: &Picture,
+    planes: &mut [Vec<u8>; 3],
+    order: Vec<Place>,
+    then: impl Fn(&deblock::Picture, Place),
+) -> f64 {
+    archive(picture, planes, |lent| {
+        for at in order {
+            assert!(lent.visit(at).is_done());
+            then(lent, at);
+        }
+    })
+}
+
+fn ask(lent: &deblock::Picture, at: Place) {
+    assert!(lent.made_final(at).is_ok());
 }
 
 fn fields(picture: &Picture, [luma, u, v]: &mut [Vec<u8>; 3]) -> f64 {

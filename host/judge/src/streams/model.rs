@@ -5,6 +5,7 @@
 //! byte to byte and adds numbers up; so does scanner.rs, which carries the mistakes.
 
 use super::ask::{lengths, Ask, Call, Reply};
+use crate::table::is_size;
 use std::collections::HashMap;
 use std::sync::LazyLock;
 
@@ -54,12 +55,6 @@ fn write(a: &mut Ask) -> Result<Reply, u32> {
     let stream = [lines(a.w, a.h).as_bytes(), &a.luma, &a.u, &a.v].concat();
     a.stream.copy_from_slice(&stream);
     Ok(Reply::default())
-}
-
-/// Check 1.
-fn is_size(w: usize, h: usize) -> bool {
-    let side = 1..=256;
-    side.contains(&w) && side.contains(&h) && w * h <= 36_864
 }
 
 /// Check 3.

@@ -38,6 +38,7 @@ pub fn spoiled(s: &mut Session, r: &mut Rng) -> Outcome {
 #[cfg(test)]
 mod tests {
     use super::*;
+    use crate::damage_tests::{each_calls_its_number_forth, every_pair_meets};
     use crate::streams::ask::{Ask, Call};
     use crate::streams::damages::Damage;
     use crate::streams::model;
@@ -49,39 +50,17 @@ mod tests {
         model::answer(&mut Ask { call: Call::Read, ..p.ask() }).number
     }
 
-    fn spoiled(good: &Pieces, r: &mut Rng, damages: &[Damage]) -> Pieces {
-        let mut p = good.clone();
+    fn answer(r: &mut Rng, damages: &[Damage]) -> u32 {
+        let mut p = Pieces::good(r, 3);
+        assert_eq!(number(&p), 0);
         damages.iter().for_each(|damage| damage(r, &mut p));
-        p
+        number(&p)
     }
 
     #[test]
-    fn every_damage_calls_its_number_forth() {
+    fn damages_call_their_numbers_forth() {
         let mut r = Rng::new(2);
-        for (i, (forth, damage)) in DAMAGES.into_iter().enumerate() {
-            let mut hits = |_| {
-                let good = Pieces::good(&mut r, 3);
-                assert_eq!(number(&good), 0);
-                number(&spoiled(&good, &mut r, &[damage])) == forth
-            };
-            assert!((0..200).any(&mut hits), "damage {i} never gives {forth}");
-        }
-    }
-
-    /// Of two damages the one that is asked first is the answer, made before the other or after it.
-    #[test]
-    fn every_pair_of_damages_meets() {
-        let mut r = Rng::new(3);
-        let rank = |number: u32| ORDER.iter().position(|n| *n == number);
-        for (a, one) in DAMAGES {
-            for (b, two) in DAMAGES {
-                let first = if rank(a) <= rank(b) { a } else { b };
-                let mut hits = |_| {
-                    let good = Pieces::good(&mut r, 3);
-                    [[one, two], [two, one]].iter().any(|both| number(&spoiled(&good, &mut r, both)) == first)
-                };
-                assert!((0..200).any(&mut hits), "{a} and {b} never give {first}");
-            }
-        }
+        each_calls_its_number_forth(&DAMAGES, |damages| answer(&mut r, damages));
+        every_pair_meets(&DAMAGES, &ORDER, |damages| answer(&mut r, damages));
     }
 }

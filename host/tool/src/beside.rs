@@ -1,9 +1,10 @@
-//! The planes of a replay beside the recorder's. A macroblock counts once it is final.
+//! What a replay has painted beside the recorder's planes: each macroblock as it was when it became final.
 
 use crate::differences::Differences;
 use crate::part;
-use crate::raw::samples;
+use crate::raw::{samples, Sample};
 use crate::recording::Recording;
+use crate::say::counted;
 use crate::station::Station;
 use deblock::Part;
 
@@ -11,7 +12,7 @@ use deblock::Part;
 #[derive(Clone, Copy, PartialEq, Eq, PartialOrd, Ord, Debug)]
 pub enum Verdict {
     Equal,
-    /// Some macroblocks were never visited; those that are final are the recorder's.
+    /// Some macroblocks did not become final; those that did are the recorder's.
     Incomplete,
     Different,
 }
@@ -34,12 +35,12 @@ impl Counts {
         self.equal += other.equal;
     }
 
-    /// Nothing to say where every macroblock was visited.
+    /// Nothing to say where every macroblock became final, and so was visited.
     pub fn in_words(&self) -> Option<String> {
         let Counts { all, unvisited, finals, equal } = self;
         let words =
             format!("never visited: {unvisited} of {all} macroblocks; final: {finals}, as the recorder's: {equal}");
-        (*unvisited > 0).then_some(words)
+        (finals < all).then_some(words)
     }
 }
 
@@ -50,18 +51,20 @@ struct Compared {
     part: Part,
     counts: Counts,
     differences: Differences,
+    /// Samples that are painted and that a later visit changed: none, by what is proved.
+    changed: usize,
 }
 
 impl Beside {
     pub fn of(r: &Recording, end: &Station) -> Beside {
         let compared = end.arrived.iter().map(|own| {
-            let part = own.part();
-            let all = samples(part, end.picture.view(), r.after.view());
-            let differences = Differences::of(all.filter(|s| own.is_final(s.column, s.row)));
-            let finals = r.before.size.places().filter(|p| own.is_final(p.x, p.y)).count();
-            let (all, unvisited) = (own.marks.len(), own.unvisited());
+            let (part, screen) = (own.part(), end.screen.view());
+            let is_painted = |s: &Sample| own.is_painted(s.column, s.row);
+            let differences = Differences::of(samples(part, screen, r.after.view()).filter(is_painted));
+            let changed = samples(part, screen, end.picture.view()).filter(is_painted).count();
+            let (all, unvisited, finals) = (own.all(), own.unvisited(), own.painted());
             let counts = Counts { all, unvisited, finals, equal: finals - differences.macroblocks() };
-            Compared { part, counts, differences }
+            Compared { part, counts, differences, changed }
         });
         Beside(compared.collect())
     }
@@ -77,7 +80,7 @@ impl Beside {
         sum
     }
 
-    /// What differs, what was never visited, or that all is equal.
+    /// What differs, what changed, what was never visited, or that all is equal.
     pub fn lines(&self) -> Vec<String> {
         let mut lines: Vec<String> = self.0.iter().flat_map(Compared::lines).collect();
         if lines.is_empty() {
@@ -89,16 +92,19 @@ impl Beside {
 
 impl Compared {
     fn verdict(&self) -> Verdict {
-        match (self.differences.is_empty(), self.counts.unvisited) {
-            (true, 0) => Verdict::Equal,
+        match (self.differences.is_empty() && self.changed == 0, self.counts.in_words()) {
+            (true, None) => Verdict::Equal,
             (true, _) => Verdict::Incomplete,
             (false, _) => Verdict::Different,
         }
     }
 
-    /// What differs and what was never visited.
+    /// What differs, what changed and what was never visited.
     fn lines(&self) -> Vec<String> {
         let mut lines = if self.differences.is_empty() { Vec::new() } else { self.differences.at_length() };
+        if self.changed > 0 {
+            lines.push(format!("{} changed after being painted", counted(self.changed, "sample")));
+        }
         lines.extend(self.counts.in_words());
         lines.into_iter().map(|line| part::told(self.part, line)).collect()
     }
@@ -129,6 +135,22 @@ mod tests {
         assert_eq!(verdict(&wrong, &[]), (Verdict::Incomplete, vec![never]));
         let (worst, lines) = verdict(&wrong, &visit);
         assert_eq!((worst, lines.last().map(String::as_str)), (Verdict::Different, Some("V at (7, 7): 100 and 101")));
+    }
+
+    /// What was painted counts, and it must stay in the planes.
+    #[test]
+    fn painted_too_early() {
+        let r = parse(&good()).expect("a good recording");
+        let mut end = replay(&r.before, &r.settings, &raster(&[Part::Frame], SIZE), true);
+        end.picture.luma[0] += 1;
+        let changed = Beside::of(&r, &end);
+        assert_eq!((changed.verdict(), changed.lines()), {
+            (Verdict::Different, vec!["1 sample changed after being painted".into()])
+        });
+        end.screen.luma[0] += 1;
+        assert_eq!(Beside::of(&r, &end).lines()[1..], {
+            ["macroblocks (column, row): (0, 0)".to_string(), "Y at (0, 0): 101 and 100".into()]
+        });
     }
 
     /// The last sample of V after the filter, on line 15 of the frame, is in the bottom field.

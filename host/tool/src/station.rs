@@ -12,6 +12,8 @@ use std::collections::BTreeMap;
 pub struct Station<'a> {
     sent: &'a Picture,
     pub picture: Picture,
+    /// What a viewing station has painted: each macroblock once, as it was when it became final.
+    pub screen: Picture,
     /// Of the frame, or of each field.
     pub arrived: Vec<Arrived<'a>>,
     pub answers: BTreeMap<Answer, usize>,
@@ -20,10 +22,13 @@ pub struct Station<'a> {
 /// Visits the macroblocks as they arrive. With `waits`, one that is not ready is kept and visited again as
 /// soon as a neighbour for which it may have waited is done, as the station does; else each is visited once.
 /// Until a macroblock arrives the station has other samples in its place, on the lines of its field and
-/// whatever the other field has there, so that a visit which looked at them would show.
+/// whatever the other field has there, so that a visit which looked at them would show; and so has the screen
+/// until it is painted there.
 pub fn replay<'a>(before: &'a Picture, settings: &'a [Settings], order: &[Request], waits: bool) -> Station<'a> {
     let arrived = settings.iter().map(|sent| Arrived::nothing(before.size, sent)).collect();
-    let mut station = Station { sent: before, picture: before.inverted(), arrived, answers: BTreeMap::new() };
+    let nothing = before.inverted();
+    let mut station =
+        Station { sent: before, screen: nothing.clone(), picture: nothing, arrived, answers: BTreeMap::new() };
     order.iter().for_each(|&request| station.arrives(request, waits));
     station
 }
@@ -45,7 +50,8 @@ pub fn old_rule(mut picture: Picture, settings: &Settings) -> Picture {
 }
 
 impl Station<'_> {
-    /// Stores a macroblock, unless it has come before, and visits it and those that waited for it.
+    /// Stores a macroblock, unless it has come before, visits it and those that waited for it, and after each
+    /// visit paints what has become final.
     fn arrives(&mut self, Request { part, at }: Request, waits: bool) {
         let own = self.arrived.iter_mut().find(|a| a.part() == part);
         let own = own.expect("an order has the parts of its picture");
@@ -55,7 +61,10 @@ impl Station<'_> {
             let answer = own.visit(&mut self.picture, at);
             *self.answers.entry(answer).or_default() += 1;
             match answer {
-                Answer::Done => due.extend(own.followers(at)),
+                Answer::Done => {
+                    own.paint(&self.picture, &mut self.screen, at);
+                    due.extend(own.followers(at));
+                }
                 Answer::NotReady if waits => own.waits(at),
                 _ => (),
             }

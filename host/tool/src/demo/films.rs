@@ -19,7 +19,8 @@ pub struct Films {
     pub recorder: Vec<Picture>,
     pub library: Vec<Picture>,
     pub old: Vec<Picture>,
-    /// Of all arrival orders of all pictures, those that gave the recorder's picture.
+    /// Of all arrival orders of all pictures, those that gave the recorder's picture, painted as it became
+    /// final.
     pub equal: u64,
     /// Visits that were refused as not ready.
     pub refused: usize,
@@ -60,7 +61,7 @@ impl Films {
         for order in usual.into_iter().chain(random) {
             let end = replay(before, std::slice::from_ref(settings), &order, true);
             self.refused += end.answers.get(&Answer::NotReady).copied().unwrap_or(0);
-            self.equal += u64::from(end.picture == *right && end.unvisited() == 0);
+            self.equal += u64::from(end.picture == *right && end.screen == *right && end.unvisited() == 0);
             last = Some(end.picture);
         }
         self.library.extend(last);

@@ -1,4 +1,4 @@
-//! What has arrived of a frame or of one field, and which of it was visited.
+//! What has arrived of a frame or of one field, and which of it was visited and painted.
 
 use crate::picture::{Picture, Settings};
 use deblock::{Answer, Part, Place, Size};
@@ -9,10 +9,11 @@ pub struct Arrived<'a> {
     /// QPs and flags of the macroblocks that have arrived, and 0 for the others; their strengths stand apart.
     lent: Settings,
     strengths: Vec<u8>,
-    pub marks: Vec<u8>,
+    marks: Vec<u8>,
     stored: Vec<bool>,
     /// Those that were not ready and are to be visited again.
     waiting: Vec<bool>,
+    painted: Vec<bool>,
 }
 
 impl<'a> Arrived<'a> {
@@ -28,6 +29,7 @@ impl<'a> Arrived<'a> {
             marks: vec![0; n],
             stored: vec![false; n],
             waiting: vec![false; n],
+            painted: vec![false; n],
         }
     }
 
@@ -56,6 +58,17 @@ impl<'a> Arrived<'a> {
         planes.lent(&self.lent, &mut self.strengths, &mut self.marks).visit(at)
     }
 
+    /// Paints what the visit of a macroblock has made final. None becomes so twice, by what is proved.
+    pub fn paint(&mut self, planes: &Picture, screen: &mut Picture, visited: Place) {
+        let (size, marks) = (self.size, self.marks.as_mut_slice());
+        let made = deblock::Picture { size, marks, ..Default::default() }.made_final(visited);
+        for at in made.expect("a macroblock that was visited, and marks of visits").places(visited) {
+            let again = std::mem::replace(&mut self.painted[size.index(at)], true);
+            assert!(!again, "the archive told twice that {at:?} has become final: is it the right archive?");
+            screen.take_macroblock(planes, self.part(), at);
+        }
+    }
+
     /// It is visited again once a neighbour is done.
     pub fn waits(&mut self, at: Place) {
         self.waiting[self.size.index(at)] = true;
@@ -75,10 +88,15 @@ impl<'a> Arrived<'a> {
         self.marks.iter().filter(|&&mark| mark == 0).count()
     }
 
-    /// Whether no visit changes the macroblock any more: it, its right and its lower neighbour are visited.
-    pub fn is_final(&self, x: usize, y: usize) -> bool {
-        let Size { w, h } = self.size;
-        let marked = |x: usize, y: usize| x >= w || y >= h || self.marks[y * w + x] == 1;
-        marked(x, y) && marked(x + 1, y) && marked(x, y + 1)
+    pub fn all(&self) -> usize {
+        self.marks.len()
+    }
+
+    pub fn painted(&self) -> usize {
+        self.painted.iter().filter(|&&painted| painted).count()
+    }
+
+    pub fn is_painted(&self, x: usize, y: usize) -> bool {
+        self.painted[self.size.index(Place { x, y })]
     }
 }

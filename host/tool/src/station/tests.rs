@@ -33,7 +33,7 @@ fn all_are_visited_in_the_end() {
         for order in orders.chain([columns(parts, SIZE), random(parts, SIZE, 9), backwards(parts)]) {
             let other = replay(&before, &settings, &order, true);
             assert_eq!(other.unvisited(), 0);
-            assert!(other.picture == right.picture);
+            assert!(other.picture == right.picture && other.screen == right.picture);
         }
     }
 }
@@ -92,9 +92,17 @@ fn once_is_once() {
     let (before, settings) = picture(&FRAME);
     let end = replay(&before, &settings, &backwards(&FRAME), false);
     assert_eq!((end.answers[&Answer::Done], end.answers[&Answer::NotReady], end.unvisited()), (1, 19, 19));
-    assert!(!end.arrived[0].is_final(0, 0), "its neighbours are not visited");
+}
+
+/// What is visited is painted once its neighbours are visited too, and is then as in the whole picture.
+#[test]
+fn what_is_final_is_painted() {
+    let (before, settings) = picture(&FRAME);
+    let right = replay(&before, &settings, &raster(&FRAME, SIZE), false).picture;
     let first = [(0, 0), (1, 0), (0, 1)].map(|(x, y)| Request { part: Part::Frame, at: Place { x, y } });
+    let mut screen = before.inverted();
+    assert!(replay(&before, &settings, &first[..2], false).screen == screen);
+    screen.take_macroblock(&right, Part::Frame, first[0].at);
     let end = replay(&before, &settings, &first, false);
-    let finals = [(0, 0), (1, 0), (0, 1), (4, 3)].map(|(x, y)| end.arrived[0].is_final(x, y));
-    assert_eq!(finals, [true, false, false, false]);
+    assert!(end.screen == screen && end.arrived[0].painted() == 1 && end.arrived[0].is_painted(0, 0));
 }

@@ -1,7 +1,7 @@
 -- In a sequence from nothing visited it is known beforehand what a visit makes final: its upper neighbour
 -- always, its left one in the last row, itself if it is the last macroblock. Assumes nothing.
 use mathlib.Core.Path.{_≡_, refl, sym, ap, _∙_}
-use mathlib.Core.Bool.{Bool, true, false, not, _&&_}
+use mathlib.Core.Bool.{false, not, _&&_}
 use mathlib.Core.List.{List}
 use Prim.Native.Nat.{ℕ, _+_, _-_, _*_, _<_}
 use native.Mathlib.Decide.{decLt}
@@ -13,6 +13,7 @@ use lib.Seq.{getD-set-other}
 use Rattle.laws.specs.Grid.{Near, is-left, is-up, is-up-right}
 use Rattle.laws.specs.Order.{Closed, Dep, Ready}
 use Rattle.laws.specs.Raster.{Marked}
+use Rattle.laws.proofs.Bools.{never-true}
 use Rattle.laws.proofs.Grid.{dep-lt, index-lt}
 use Rattle.laws.proofs.Raster.{mark-same, mark-stays}
 use Rattle.laws.proofs.Refusal.{passes}
@@ -30,12 +31,8 @@ use Rattle.visits.proofs.LateUntouched.{ready-here}
 use Rattle.visits.proofs.Marks.{set-bits}
 use Rattle.visits.proofs.Neighbours.{near→dep}
 use Rattle.finality.specs.Final.{hasRight, hasLower, finals, finalsOf}
-use Rattle.finality.proofs.Made.{made-never-refused, own-tells, own-said, left-tells, left-said, upper-tells, upper-said}
+use Rattle.finality.proofs.Members.{made-never-refused, own-tells, own-said, left-tells, left-said, upper-tells, upper-said}
 use Rattle.finality.proofs.Settled.{run-inv}
-
-not-true : (b : Bool) → (b ≡ true → ⊥) → b ≡ false
-not-true true h = absurd (h refl)
-not-true false h = refl
 
 -- ---- marks in which each marked macroblock was ready, and (x, y), which is unmarked and ready
 module _ (size : Size) (good : badSize size ≡ false) (ms : List ℕ) (full : length ms ≡ size .w * size .h) (bits : Bits ms) (closed : Closed (Dep (size .w)) (size .w * size .h) ms)
@@ -67,24 +64,24 @@ module _ (size : Size) (good : badSize size ≡ false) (ms : List ℕ) (full : l
   z = made-never-refused size after x y good column row (length-set ms i 1 ∙ full) (set-bits ms i bits)
 
   own-value : Dec (x + 1 < W) → Dec (y + 1 < size .h) → finalsOf size after x y .own ≡ (not (hasRight size x) && not (hasLower size y))
-  own-value (yes h) k = rw (lt-ltb (x + 1) W h) (not-true _ (λ e. not-yet (x + 1) y h row (is-left refl refl) (own-tells size after x y z e .right h)))
-  own-value (no h) (yes k) = rw (le-ltb (x + 1) W (omega arith), lt-ltb (y + 1) (size .h) k) (not-true _ (λ e. not-yet x (y + 1) column k (is-up refl refl) (own-tells size after x y z e .lower k)))
+  own-value (yes h) k = rw (lt-ltb (x + 1) W h) (never-true _ (λ e. not-yet (x + 1) y h row (is-left refl refl) (own-tells size after x y z e .right h)))
+  own-value (no h) (yes k) = rw (le-ltb (x + 1) W (omega arith), lt-ltb (y + 1) (size .h) k) (never-true _ (λ e. not-yet x (y + 1) column k (is-up refl refl) (own-tells size after x y z e .lower k)))
   own-value (no h) (no k) =
       rw (le-ltb (x + 1) W (omega arith), le-ltb (y + 1) (size .h) (omega arith))
       (own-said size after x y z (record { own = mark-same ms i inside; right = λ l. absurd (h l); lower = λ l. absurd (k l) }))
 
   left-value : Dec (0 < x) → Dec (y + 1 < size .h) → finalsOf size after x y .left ≡ (ltb 0 x && not (hasLower size y))
-  left-value (no h) k = rw (le-ltb 0 x (omega arith)) (not-true _ (λ e. h (left-tells size after x y z e .0)))
+  left-value (no h) k = rw (le-ltb 0 x (omega arith)) (never-true _ (λ e. h (left-tells size after x y z e .0)))
   left-value (yes h) (yes k) =
       rw (lt-ltb 0 x h, lt-ltb (y + 1) (size .h) k)
-      (not-true _ (λ e. not-yet (x - 1) (y + 1) (omega arith) k (is-up-right (omega arith) refl) (left-tells size after x y z e .1 .lower k)))
+      (never-true _ (λ e. not-yet (x - 1) (y + 1) (omega arith) k (is-up-right (omega arith) refl) (left-tells size after x y z e .1 .lower k)))
   left-value (yes h) (no k) =
       let at : y * W + (x - 1 + 1) ≡ i = omega arith in
       rw (lt-ltb 0 x h, le-ltb (y + 1) (size .h) (omega arith))
       (left-said size after x y z h (record { own = waited (x - 1) y (omega arith) (is-left (omega arith) refl); right = λ l. rw at (mark-same ms i inside); lower = λ l. absurd (k l) }))
 
   upper-value : Dec (0 < y) → finalsOf size after x y .upper ≡ ltb 0 y
-  upper-value (no h) = rw (le-ltb 0 y (omega arith)) (not-true _ (λ e. h (upper-tells size after x y z e .0)))
+  upper-value (no h) = rw (le-ltb 0 y (omega arith)) (never-true _ (λ e. h (upper-tells size after x y z e .0)))
   upper-value (yes h) =
       let row-at : y - 1 + 1 ≡ y = omega arith in
       let at : (y - 1 + 1) * W + x ≡ i = ap (λ (k : ℕ). k * W + x) row-at in

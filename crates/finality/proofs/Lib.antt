@@ -4,6 +4,7 @@ pub mod Examples
 pub mod InSequence
 pub mod LateSettled
 pub mod Made
+pub mod Members
 pub mod Needed
 pub mod Places
 pub mod Refused

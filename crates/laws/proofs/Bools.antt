@@ -36,6 +36,10 @@ not-not false = refl
 pub true-false : true ≡ false → ⊥
 true-false e = let z : _≡_ {A = ℕ} 0 1 = cc in omega arith
 
+pub never-true : (a : Bool) → (a ≡ true → ⊥) → a ≡ false
+never-true true h = absurd (h refl)
+never-true false h = refl
+
 -- a check of two numbers that does not apply
 pub equal : (a b : ℕ) → not (eqb a b) ≡ false → a ≡ b
 equal a b e = eqb-true a b (not-false (eqb a b) e)

@@ -1,6 +1,6 @@
 -- Two macroblocks whose footprints meet are the same, or one is the left, upper or upper right neighbour of
 -- the other. Assumes nothing.
-use mathlib.Core.Path.{_≡_, sym, ap, subst}
+use mathlib.Core.Path.{_≡_, sym, ap, subst, _∙_}
 use Prim.Native.Nat.{ℕ, _+_, _*_, _/_, _%_, _≤_, _<_}
 use native.Mathlib.Nat.{mod-lt, div-add-mod', mul-le-mul-right, le-trans}
 use native.Mathlib.Decide.{ℕ-discrete}
@@ -61,6 +61,13 @@ apart W w a b l n bx by s t = go (meet (a % W) (a / W) (b % W) (b / W) bx by s t
 -- a macroblock (x, y) of a picture W wide and H high has an index below W * H
 pub index-lt : (W H x y : ℕ) → x < W → y < H → y * W + x < W * H
 index-lt W H x y a b = omega (arith, mul-le-mul-right W b)
+
+-- .. which tells its column and row
+pub index-tells : (W a b x y : ℕ) → a < W → x < W → b * W + a ≡ y * W + x → (a ≡ x) × (b ≡ y)
+index-tells W a b x y ha hx e = (
+  sym (digits-mod b ha) ∙ ap (λ (k : ℕ). k % W) e ∙ digits-mod y hx,
+  sym (digits-div b ha) ∙ ap (λ (k : ℕ). k / W) e ∙ digits-div y hx,
+)
 
 -- rows of w: one that is not the first starts a width in, and one below h ends before h rows do
 pub row-pos : (y w : ℕ) → 0 < y → w ≤ y * w

@@ -1,15 +1,15 @@
 -- Two visits that are both ready may be made in either order. Assumes nothing.
-use mathlib.Core.Path.{_≡_, sym, ap, _∙_}
+use mathlib.Core.Path.{_≡_, sym, _∙_}
 use mathlib.Core.Logic.{_≢_}
 use mathlib.Core.List.{List, [], _∷_}
-use Prim.Native.Nat.{ℕ, _+_, _*_, _/_, _%_, _<_}
+use Prim.Native.Nat.{ℕ, _+_, _*_, _<_}
 use native.Mathlib.Decide.{decLt}
 use native.Mathlib.Omega.{arith}
-use lib.Arith.{digits-div, digits-mod}
 use lib.ListN.{set}
 use lib.Seq.{set-comm, getD-set-other}
 use Rattle.laws.specs.Raster.{Marked}
 use Rattle.laws.specs.Order.{Ready, Dep}
+use Rattle.laws.proofs.Grid.{index-tells}
 use Rattle.visits.specs.Visit.{At, State, visit, run, answers}
 use Rattle.visits.specs.Instance.{AsksPlace, Commutes}
 use Rattle.visits.proofs.Neighbours.{free→ready}
@@ -34,10 +34,7 @@ module _
     (early : State S → At → ℕ)
     (inside : AsksPlace W H early) where
   same-place : (r q : At) → r .0 < W → q .0 < W → r .1 * W + r .0 ≡ q .1 * W + q .0 → r ≡ q
-  same-place r q h k e = λ i. (
-    (sym (digits-mod (r .1) h) ∙ ap (λ (n : ℕ). n % W) e ∙ digits-mod (q .1) k) i,
-    (sym (digits-div (r .1) h) ∙ ap (λ (n : ℕ). n / W) e ∙ digits-div (q .1) k) i,
-  )
+  same-place r q h k e = let p = index-tells W (r .0) (r .1) (q .0) (q .1) h k e in λ i. (p .0 i, p .1 i)
 
   -- a visit that is ready stays so while others are made
   pub ready-stays : (s : State S) (r q : At) → r ≢ q → visit W step early s r .0 ≡ 0 → visit W step early s q .0 ≡ 0

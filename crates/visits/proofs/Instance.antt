@@ -16,6 +16,7 @@ use Rattle.edges.proofs.Pictures.{macroblock-sized}
 use Rattle.visits.specs.Instance.{AsksPlace, Commutes, Passes}
 use Rattle.visits.specs.Beyond.{Bits}
 use Rattle.sizes.specs.Sizes.{outsideOf, badPlanes}
+use Rattle.sizes.specs.declared.Part.{Part}
 use Rattle.sizes.specs.declared.Part.the-variants.{Frame}
 use Rattle.pictures.specs.Checks.{Lent, heldOf, badLent, badQp, badStrength, someBad, someBadFlag}
 use Rattle.sizes.specs.Entries.{badFlag}
@@ -24,9 +25,12 @@ use Rattle.laws.proofs.Bools.{and-false}
 use Rattle.laws.proofs.Refusal.{none-applies}
 use Rattle.visits.proofs.VisitFits.{checked-visit-fits}
 
-pub asks-place : (d : Lent) → AsksPlace (d .size .w) (d .size .h) (earlyOf d)
+pub asks-place-in : (part : Part) (d : Lent) → AsksPlace (d .size .w) (d .size .h) (earlyIn part d)
 unfolding earlyIn
-asks-place d s r e = let g = checked-visit-fits Frame d (length (s .0 .luma)) (length (s .0 .u)) (length (s .0 .v)) (s .1) r e in (g .column, g .row)
+asks-place-in part d s r e = let g = checked-visit-fits part d (length (s .0 .luma)) (length (s .0 .u)) (length (s .0 .v)) (s .1) r e in (g .column, g .row)
+
+pub asks-place : (d : Lent) → AsksPlace (d .size .w) (d .size .h) (earlyOf d)
+asks-place = asks-place-in Frame
 
 pub commutes : (d : Lent) → 0 < d .size .w → Commutes (d .size .w) (stepOf (heldOf d))
 commutes d wide = step-commute (heldOf d) wide

@@ -9,9 +9,10 @@ use Rattle.laws.specs.Raster.{Marked}
 use Rattle.edges.specs.Picture.{Planes, frameOf}
 use Rattle.pictures.specs.Checks.{Lent, heldOf}
 use Rattle.visits.specs.Checks.{Sound, Fit}
-use Rattle.visits.specs.Late.{SameAt, SamplesOf, CallsWith, LateCalls, Lends}
+use Rattle.visits.specs.Late.{SameAt, SamplesOf, CallsWith, LateCalls, Lends, ArrivalCalls, Writes}
 use Rattle.visits.specs.Promise.{visitOf, unvisited}
 use Rattle.visits.specs.Visit.{At, State, run}
+use Rattle.visits.proofs.LateArrivals.{written-once, written-on}
 use Rattle.visits.proofs.LatePlaces.{same-sym, same-after, same-less}
 use Rattle.visits.proofs.LateRun.{late-from, alongside-first}
 use Rattle.visits.proofs.LateTurn.{Alongside}
@@ -66,3 +67,9 @@ module _ (d : Lent) (sound : Sound d) (start first : Planes) (f : Fit d start) (
 
       whole : SameAt (OfMacroblock (d .size .w) x y) (s .0) (frameOf (heldOf d) (d .size .h) start)
       whole = whole-stays d x y (k .0 .column) (k .0 .row) start rs final
+
+  -- .. and so where each macroblock is written once, before its visit
+  pub written-settled : (when : ℕ → ℕ) {rs later : List At} {said after : List ℕ} {now end : State Planes} (x y : ℕ)
+      → ArrivalCalls d start when (unvisited d first) rs said now → CallsWith (Writes d start when) (length rs) now later after end
+      → finalityOf (d .size) (now .1) x y .yes ≡ true → Settled (d .size .w) x y (frameOf (heldOf d) (d .size .h) start) (now .0) (end .0)
+  written-settled when x y before after = late-settled x y (written-once d start when first f g before) (written-on d start when first f g before after)

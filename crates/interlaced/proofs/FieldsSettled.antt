@@ -6,12 +6,13 @@ use mathlib.Core.Bool.{true, not, _&&_}
 use mathlib.Core.List.{List}
 use Prim.Native.Nat.{ℕ, _+_, _*_, _<_}
 use lib.Dec.{ltb}
+use lib.ListN.{length}
 use Rattle.edges.specs.Fields.{Lengths, takenOut}
 use Rattle.edges.specs.Picture.{Planes, frameOf}
 use Rattle.sizes.specs.declared.Size.{Size}
 use Rattle.pictures.specs.Checks.{Lent, heldOf}
 use Rattle.visits.specs.Checks.{Sound, Fit}
-use Rattle.visits.specs.Late.{Lends}
+use Rattle.visits.specs.Late.{Lends, Writes}
 use Rattle.visits.specs.Promise.{visitOf, unvisited}
 use Rattle.visits.specs.Visit.{At, State, fresh, run}
 use Rattle.visits.proofs.LatePlaces.{none-marked}
@@ -19,7 +20,7 @@ use Rattle.finality.specs.Final.{hasRight, hasLower, finalityOf, finals, finals
 use Rattle.finality.specs.Settled.{Settled}
 use Rattle.finality.proofs.Exactly.{yes-tells}
 use Rattle.finality.proofs.InSequence.{made-in-sequence}
-use Rattle.finality.proofs.LateSettled.{late-settled}
+use Rattle.finality.proofs.LateSettled.{late-settled, written-settled}
 use Rattle.finality.proofs.Settled.{final-settled}
 use Rattle.interlaced.specs.Alone.{only}
 use Rattle.interlaced.specs.Both.{Arrival, OfField, Both, marksFor, unvisitedBoth, lentFor, bothVisit, bothAfter}
@@ -99,6 +100,12 @@ pub late-field-settled : (d : Lent) → Sound d → (start first : Planes) → F
     → FieldCallsWith q (λ j. Lends d start) 0 (unvisited d first) rs said now → FieldCallsWith q (λ j. Lends d start) k now later after end
     → finalityOf (d .size) (now .1) x y .yes ≡ true → Settled (d .size .w) x y (frameOf (heldOf d) (d .size .h) start) (now .0) (end .0)
 late-field-settled d sound start first f g parity x y before after = late-settled d sound start first f g x y (as-pictures parity before) (as-pictures parity after)
+
+pub written-field-settled : (d : Lent) → Sound d → (start first : Planes) → Fit d start → Fit d first → (when : ℕ → ℕ) → {q : ℕ} → q < 2
+    → {rs later : List At} {said after : List ℕ} {now end : State Planes} (x y : ℕ)
+    → FieldCallsWith q (Writes d start when) 0 (unvisited d first) rs said now → FieldCallsWith q (Writes d start when) (length rs) now later after end
+    → finalityOf (d .size) (now .1) x y .yes ≡ true → Settled (d .size .w) x y (frameOf (heldOf d) (d .size .h) start) (now .0) (end .0)
+written-field-settled d sound start first f g when parity x y before after = written-settled d sound start first f g when x y (as-pictures parity before) (as-pictures parity after)
 
 -- ---- what a visit of a field makes final is known beforehand, as in a frame
 pub field-made-in-sequence : (size : Size) (top bottom : OfField) → 0 < size .w → (start : Planes) → Lengths (2 * (size .w * size .h)) start → (rs : List Arrival) (p : ℕ) → p < 2 → (x y : ℕ)

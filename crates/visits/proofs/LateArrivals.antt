@@ -4,7 +4,8 @@ use mathlib.Core.Path.{_≡_, sym, ap, subst, _∙_}
 use mathlib.Core.Logic.{_⊎_, inl, inr}
 use mathlib.Core.List.{List}
 use Prim.Native.Nat.{ℕ, suc, _+_, _*_, _<_}
-use native.Mathlib.Nat.{not-suc-le-zero}
+use native.Mathlib.Nat.{not-suc-le-zero, add-zero, zero-add}
+use lib.ListN.{length}
 use native.Mathlib.Decide.{ℕ-discrete}
 use native.Mathlib.Omega.{arith}
 use Rattle.laws.specs.Raster.{Marked}
@@ -88,11 +89,24 @@ module _ (d : Lent) (start : Planes) (when : ℕ → ℕ) where
 
   -- ---- all calls
   arrivals-from : {k : ℕ} {s now : State Planes} {rs : List At} {said : List ℕ} → Written k s → CallsWith (Writes d start when) k s rs said now
-      → CallsWith (λ j. Lends d start) k s rs said now
-  arrivals-from w last = last
-  arrivals-from {k} {s} w (call {r = r} {n = n} {e = e} {p = p} c o more) = call (lends k s w r n e p c o) o (arrivals-from (next k s w r n e p c o) more)
+      → CallsWith (λ j. Lends d start) k s rs said now × Written (k + length rs) now
+  arrivals-from {k} {s} w last = (last, subst (λ (j : ℕ). Written j s) (sym (add-zero k)) w)
+  arrivals-from {k} {s} {now} w (call {r = r} {n = n} {e = e} {p = p} {rs = rs} c o more) =
+      let l = arrivals-from (next k s w r n e p c o) more in
+      let j : suc k + length rs ≡ k + suc (length rs) = omega arith in
+      (call (lends k s w r n e p c o) o (l .0), subst (λ (i : ℕ). Written i now) j (l .1))
 
   -- `first` is what the planes hold before anything has arrived
-  pub written-once : (first : Planes) → Fit d start → Fit d first → {rs : List At} {said : List ℕ} {now : State Planes}
-      → ArrivalCalls d start when (unvisited d first) rs said now → LateCalls d start (unvisited d first) rs said now
-  written-once first f g c = arrivals-from (record { marked = λ i m. absurd (none-marked (d .size .w * d .size .h) i m); samples = nowhere-same d f g (λ N j h. not-suc-le-zero (h .0)) }) c
+  module _ (first : Planes) (f : Fit d start) (g : Fit d first) {rs : List At} {said : List ℕ} {now : State Planes}
+      (c : ArrivalCalls d start when (unvisited d first) rs said now) where
+    from-nothing : LateCalls d start (unvisited d first) rs said now × Written (0 + length rs) now
+    from-nothing =
+        arrivals-from (record { marked = λ i m. absurd (none-marked (d .size .w * d .size .h) i m); samples = nowhere-same d f g (λ N j h. not-suc-le-zero (h .0)) }) c
+
+    pub written-once : LateCalls d start (unvisited d first) rs said now
+    written-once = from-nothing .0
+
+    -- .. and so it makes those that follow
+    pub written-on : {later : List At} {after : List ℕ} {end : State Planes} → CallsWith (Writes d start when) (length rs) now later after end
+        → CallsWith (λ j. Lends d start) (length rs) now later after end
+    written-on more = arrivals-from (subst (λ (j : ℕ). Written j now) (zero-add (length rs)) (from-nothing .1)) more .0

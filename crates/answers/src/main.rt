@@ -62,6 +62,8 @@ fn plain(inter: u8, x: usize, t8: u8, s: &mut [u8]) {
         &mv0,
         &[],
         &[],
+        &[],
+        &[],
         s,
     );
     text(b"plain ");
@@ -90,9 +92,41 @@ fn flagged(x: usize, flat: bool, uniform: bool, s: &mut [u8]) {
         &[0; 64],
         &ref1,
         &[0; 64],
+        &[],
+        &[],
         s,
     );
     text(b"flagged ");
+    answer(n, s);
+}
+
+// Both lists with tables: indices 0 and 2 of list 0 and 1 of list 1 name picture 5, the other ones picture 7,
+// and 3 is past list 0's. In the right macroblock the first block of each row has other references.
+fn listed(x: usize, last: i32, s: &mut [u8]) {
+    let mut ref0 = [0; 32];
+    let mut ref1 = [1; 32];
+    ref0[4] = 2;
+    ref0[12] = 3;
+    ref1[20] = 0;
+    ref0[28] = 1;
+    ref1[28] = -1;
+    let n = derive_mb(
+        Size { w: 2, h: 1 },
+        false,
+        x,
+        0,
+        &[],
+        &[1; 32],
+        &[0; 32],
+        &ref0,
+        &[0; 64],
+        &ref1,
+        &[0; 64],
+        &[5, 7, last],
+        &[7, 5],
+        s,
+    );
+    text(b"listed ");
     answer(n, s);
 }
 
@@ -142,6 +176,8 @@ fn by_kind(x: usize, kind: MbKind, s: &mut [u8]) {
         &[-7; 64],
         &[],
         &[],
+        &[],
+        &[],
         s,
     );
     text(b"kind ");
@@ -186,6 +222,9 @@ fn main() {
     by_kind(0, MbKind::Intra, &mut s);
     by_kind(1, MbKind::Skip, &mut s);
     by_kind(1, MbKind::Intra, &mut s);
+    listed(0, 5, &mut s);
+    listed(1, 5, &mut s);
+    listed(1, 65536, &mut s);
     plain(0, 0, 0, &mut s);
     plain(1, 1, 0, &mut s);
     plain(2, 1, 0, &mut s);

@@ -27,9 +27,11 @@ pub extern "C" fn deblock_strengths<'a>(
     mv0: &'a [i16],
     ref1: &[i8],
     mv1: &'a [i16],
+    pictures0: &[i32],
+    pictures1: &[i32],
     strengths: &mut [u8],
 ) -> u32
-    ensures { λ n. ⌜ PlainOutcome (sizeOf w h) (isSet field) x y (now (t8s .entry)) (grids (now (inter .entry)) (now (nnz .entry)) (now (ref0 .entry)) (now (mv0 .entry)) (now (ref1 .entry)) (now (mv1 .entry))) (now (strengths .entry)) n (now (strengths .exit)) ⌝ }
+    ensures { λ n. ⌜ PlainOutcome (sizeOf w h) (isSet field) x y (now (t8s .entry)) (grids (now (inter .entry)) (now (nnz .entry)) (now (ref0 .entry)) (now (mv0 .entry)) (now (ref1 .entry)) (now (mv1 .entry)) (now (pictures0 .entry)) (now (pictures1 .entry))) (now (strengths .entry)) n (now (strengths .exit)) ⌝ }
 {
     let size = Size { w, h };
     derive_mb(
@@ -44,6 +46,8 @@ pub extern "C" fn deblock_strengths<'a>(
         mv0,
         ref1,
         mv1,
+        pictures0,
+        pictures1,
         strengths,
     )
 }
@@ -65,9 +69,11 @@ pub extern "C" fn deblock_strengths_flags<'a>(
     mv0: &'a [i16],
     ref1: &[i8],
     mv1: &'a [i16],
+    pictures0: &[i32],
+    pictures1: &[i32],
     strengths: &mut [u8],
 ) -> u32
-    ensures { λ n. ⌜ FlagsOutcome (sizeOf w h) (isSet field) (flagged x y flat uniform) (now (t8s .entry)) (grids (now (inter .entry)) (now (nnz .entry)) (now (ref0 .entry)) (now (mv0 .entry)) (now (ref1 .entry)) (now (mv1 .entry))) (now (strengths .entry)) n (now (strengths .exit)) ⌝ }
+    ensures { λ n. ⌜ FlagsOutcome (sizeOf w h) (isSet field) (flagged x y flat uniform) (now (t8s .entry)) (grids (now (inter .entry)) (now (nnz .entry)) (now (ref0 .entry)) (now (mv0 .entry)) (now (ref1 .entry)) (now (mv1 .entry)) (now (pictures0 .entry)) (now (pictures1 .entry))) (now (strengths .entry)) n (now (strengths .exit)) ⌝ }
 {
     let size = Size { w, h };
     let f = Flagged {
@@ -87,6 +93,8 @@ pub extern "C" fn deblock_strengths_flags<'a>(
         mv0,
         ref1,
         mv1,
+        pictures0,
+        pictures1,
         strengths,
     )
 }
@@ -123,9 +131,11 @@ pub extern "C" fn deblock_strengths_kind<'a>(
     mv0: &'a [i16],
     ref1: &[i8],
     mv1: &'a [i16],
+    pictures0: &[i32],
+    pictures1: &[i32],
     strengths: &mut [u8],
 ) -> u32
-    ensures { λ n. ⌜ DeriveOutcome (sizeOf w h) (isSet field) x y (now (t8s .entry)) (grids (now (inter .entry)) (now (nnz .entry)) (now (ref0 .entry)) (now (mv0 .entry)) (now (ref1 .entry)) (now (mv1 .entry))) (untrueNumber (sizeOf w h) x y kind (grids (now (inter .entry)) (now (nnz .entry)) (now (ref0 .entry)) (now (mv0 .entry)) (now (ref1 .entry)) (now (mv1 .entry)))) (now (strengths .entry)) n (now (strengths .exit)) ⌝ }
+    ensures { λ n. ⌜ DeriveOutcome (sizeOf w h) (isSet field) x y (now (t8s .entry)) (grids (now (inter .entry)) (now (nnz .entry)) (now (ref0 .entry)) (now (mv0 .entry)) (now (ref1 .entry)) (now (mv1 .entry)) (now (pictures0 .entry)) (now (pictures1 .entry))) (untrueNumber (sizeOf w h) x y kind (grids (now (inter .entry)) (now (nnz .entry)) (now (ref0 .entry)) (now (mv0 .entry)) (now (ref1 .entry)) (now (mv1 .entry)) (now (pictures0 .entry)) (now (pictures1 .entry)))) (now (strengths .entry)) n (now (strengths .exit)) ⌝ }
 {
     let size = Size { w, h };
     if 3 < kind {
@@ -141,6 +151,8 @@ pub extern "C" fn deblock_strengths_kind<'a>(
             mv0,
             ref1,
             mv1,
+            pictures0,
+            pictures1,
         );
         return if n != 0 { n } else { 12 };
     }
@@ -157,6 +169,8 @@ pub extern "C" fn deblock_strengths_kind<'a>(
         mv0,
         ref1,
         mv1,
+        pictures0,
+        pictures1,
         strengths,
     )
 }

@@ -5,4 +5,6 @@ pub mod Laws
 pub mod Limits
 pub mod GridParts
 pub mod Pairings
+pub mod Pictures
 pub mod Refused
+pub mod Renamed

@@ -13,6 +13,7 @@ use Rattle.motion.specs.Cases.{moving, noMotion, interBlock, straight, c
 use Rattle.motion.specs.Far.{outside}
 use Rattle.motion.specs.Grids.{Grids, grids, motionAt, blockOf, blockRead, blkAt}
 use Rattle.motion.specs.Motion.{motion0, motion1, isUsed, ifUsed, used, mate, inOrder, references, mismatched, differ}
+use Rattle.motion.specs.Pictures.{namedBy}
 use Rattle.motion.specs.Sets.{sameSet}
 use Rattle.motion.specs.declared.blocks.Blk.{Blk}
 use Rattle.motion.specs.declared.blocks.Motion.{Motion}
@@ -60,13 +61,14 @@ not-list0-only = false≢true
 
 -- list 0's motion read for list 1's too: a block that uses list 1 alone
 abbrev list0Twice : Grids → ℕ → Blk
-list0Twice g i = blockOf (eqb (getD (g .inter) i 0) 1) (motionAt (g .ref0) (g .mv0) i) (motionAt (g .ref0) (g .mv0) i)
+list0Twice g i =
+    blockOf (eqb (getD (g .inter) i 0) 1) (motionAt (g .pictures0) (g .ref0) (g .mv0) i) (motionAt (g .pictures0) (g .ref0) (g .mv0) i)
 
 abbrev list1Alone : Grids
-list1Alone = grids (1 ∷ []) (0 ∷ []) (negsuc 0 ∷ []) (pos 0 ∷ pos 0 ∷ []) (pos 3 ∷ []) (pos 0 ∷ pos 0 ∷ [])
+list1Alone = grids (1 ∷ []) (0 ∷ []) (negsuc 0 ∷ []) (pos 0 ∷ pos 0 ∷ []) (pos 3 ∷ []) (pos 0 ∷ pos 0 ∷ []) [] []
 
 pub not-list0-twice : list0Twice list1Alone 0 ≡ blkAt list1Alone 0 → ⊥
-unfolding blockRead
+unfolding blockRead namedBy
 not-list0-twice e = false≢true (ap (λ (b : Blk). isUsed (motion1 b)) e)
 
 -- the number of used references ignored: one against the same and another

@@ -1,4 +1,4 @@
-// A block is read from its picture's grids.
+// A block is read from its picture's grids, and what its references name from the lists' tables.
 // A function that takes both motion grids has one lifetime for the two, and so must every caller have.
 ghost use mathlib.Core.Path.{_≡_};
 ghost use mathlib.Core.Bool.{cond};
@@ -6,6 +6,7 @@ ghost use Prim.Native.Nat.{_+_, _*_, _<_, _≤_};
 ghost use lib.ListN.{length};
 ghost use Rattle.motion.specs.Grids.{refAt, vectorAt, motionAt, blockOf, blockRead};
 ghost use Rattle.motion.specs.Inner.{Optional, Hold, pairAt};
+ghost use Rattle.motion.specs.Pictures.{pictureIn, namedBy};
 use crate::blocks::Blk;
 use crate::blocks::Motion;
 
@@ -49,18 +50,42 @@ fn ref_at(refs: &[i8], i: usize) -> i32
     refs[i] as i32
 }
 
-// What list 0 holds of block i.
-fn list0<'a>(ref0: &[i8], mv0: &'a [i16], mv1: &'a [i16], i: usize) -> Motion
-    requires { ⌜ (i < length (now ref0)) × (2 * i + 2 ≤ length (now mv0)) ⌝ }
-    ensures { λ r. ⌜ r ≡ motionAt (now (ref0 .entry)) (now (mv0 .entry)) i ⌝ }
+// The picture of an index by its list's table.
+fn picture_in(pictures: &[i32], r: i32) -> i32
+    ensures { λ p. ⌜ p ≡ pictureIn (now (pictures .entry)) r ⌝ }
 {
-    vector_at(ref_at(ref0, i), mv0, mv1, false, i)
+    if r < 0 {
+        return -1;
+    }
+    let i = r as usize;
+    if i < pictures.len() {
+        return pictures[i];
+    }
+    -1
+}
+
+// What a reference names: where there is no table, its own number.
+fn named_by(pictures: &[i32], r: i32) -> i32
+    ensures { λ p. ⌜ p ≡ namedBy (now (pictures .entry)) r ⌝ }
+{
+    if pictures.len() == 0 {
+        return r;
+    }
+    picture_in(pictures, r)
+}
+
+// What list 0 holds of block i.
+fn list0<'a>(ref0: &[i8], mv0: &'a [i16], mv1: &'a [i16], pictures0: &[i32], i: usize) -> Motion
+    requires { ⌜ (i < length (now ref0)) × (2 * i + 2 ≤ length (now mv0)) ⌝ }
+    ensures { λ r. ⌜ r ≡ motionAt (now (pictures0 .entry)) (now (ref0 .entry)) (now (mv0 .entry)) i ⌝ }
+{
+    vector_at(named_by(pictures0, ref_at(ref0, i)), mv0, mv1, false, i)
 }
 
 // What list 1 holds of it. Its grids may be empty.
-fn list1<'a>(ref1: &[i8], mv0: &'a [i16], mv1: &'a [i16], i: usize) -> Motion
+fn list1<'a>(ref1: &[i8], mv0: &'a [i16], mv1: &'a [i16], pictures1: &[i32], i: usize) -> Motion
     requires { ⌜ Optional (now ref1) (now mv1) (i + 1) ⌝ }
-    ensures { λ r. ⌜ r ≡ motionAt (now (ref1 .entry)) (now (mv1 .entry)) i ⌝ }
+    ensures { λ r. ⌜ r ≡ motionAt (now (pictures1 .entry)) (now (ref1 .entry)) (now (mv1 .entry)) i ⌝ }
 {
     if ref1.len() == 0 {
         return Motion {
@@ -69,7 +94,7 @@ fn list1<'a>(ref1: &[i8], mv0: &'a [i16], mv1: &'a [i16], i: usize) -> Motion
             y: 0,
         };
     }
-    vector_at(ref_at(ref1, i), mv0, mv1, true, i)
+    vector_at(named_by(pictures1, ref_at(ref1, i)), mv0, mv1, true, i)
 }
 
 // A block of what each list holds.
@@ -94,12 +119,14 @@ pub fn load<'a>(
     mv0: &'a [i16],
     ref1: &[i8],
     mv1: &'a [i16],
+    pictures0: &[i32],
+    pictures1: &[i32],
     i: usize,
 ) -> Blk
     requires { ⌜ Hold (now inter) (now ref0) (now mv0) (now ref1) (now mv1) (i + 1) ⌝ }
-    ensures { λ r. ⌜ r ≡ blockRead (now (inter .entry)) (now (ref0 .entry)) (now (mv0 .entry)) (now (ref1 .entry)) (now (mv1 .entry)) i ⌝ }
+    ensures { λ r. ⌜ r ≡ blockRead (now (inter .entry)) (now (ref0 .entry)) (now (mv0 .entry)) (now (ref1 .entry)) (now (mv1 .entry)) (now (pictures0 .entry)) (now (pictures1 .entry)) i ⌝ }
 {
-    let m = list0(ref0, mv0, mv1, i);
-    let n = list1(ref1, mv0, mv1, i);
+    let m = list0(ref0, mv0, mv1, pictures0, i);
+    let n = list1(ref1, mv0, mv1, pictures1, i);
     block_of(inter[i] == 1, m, n)
 }

@@ -5,6 +5,7 @@ use mathlib.Core.Path.{_≡_}
 use mathlib.Core.Bool.{Bool, true, false, cond}
 use mathlib.Core.List.{List}
 use lib.Dec.{eqb}
+use lib.IntN.{ℤ}
 use lib.ListN.{length}
 use Rattle.laws.specs.Loop.{upTo}
 use Rattle.laws.specs.Some.{every}
@@ -39,8 +40,8 @@ pub record DerivedAll (size : Size) (field : Bool) (g : Grids) (t8s : List ℕ) 
   pub all : r ≡ true → every n (servedAt size t8s g (length s)) ≡ true
   pub leaves : s′ ≡ derivedTo size field g t8s n s
 
--- .. of grids that were read from a file: no contract can say which they are, but some they are. More than
--- 120 macroblocks are not read
-pub record FromFile (size : Size) (field : Bool) (t8s : List ℕ) (n : ℕ) (s : List ℕ) (r : Bool) (s′ : List ℕ) : Type 0 where
+-- .. of grids that were read from a file, with tables that are lent: no contract can say which grids they
+-- are, but some they are. More than 120 macroblocks are not read
+pub record FromFile (size : Size) (field : Bool) (pictures0 pictures1 : List ℤ) (t8s : List ℕ) (n : ℕ) (s : List ℕ) (r : Bool) (s′ : List ℕ) : Type 0 where
   pub too-large : 120 < n → (r ≡ false) × (s′ ≡ s)
-  pub derived : n ≤ 120 → (g : Grids) × DerivedAll size field g t8s n s r s′
+  pub derived : n ≤ 120 → (g : Grids) × (g .pictures0 ≡ pictures0) × (g .pictures1 ≡ pictures1) × DerivedAll size field g t8s n s r s′

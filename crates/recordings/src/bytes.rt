@@ -6,6 +6,7 @@
 // stays. What is equal is decided elsewhere: by `check::same` of the kit, which answers true exactly where
 // two lists are equal, and by orders.rt.
 ghost use mathlib.Core.Path.{_≡_};
+ghost use Prim.Native.Nat.{_+_, _*_};
 ghost use lib.ListN.{length, getD};
 ghost use Rattle.recordings.specs.Bytes.{copied, ones};
 use libc::STDOUT_FILENO;
@@ -54,6 +55,13 @@ pub fn all_ones(s: &[u8]) -> bool
         good = good & (s[i] == 1);
     }
     good
+}
+
+// A number of two bytes, the lower one first.
+pub fn joined(low: u8, high: u8) -> u16
+    ensures { λ r. ⌜ r ≡ low + 256 * high ⌝ }
+{
+    low as u16 + 256 * (high as u16)
 }
 
 // Past the end stands 0.

@@ -1,6 +1,6 @@
 // The grids of a recording, and the strengths that are derived from them. No contract can say what a file
-// holds, so `strengths_of` says of some grids that the strengths are theirs (`FromFile`); that they are the
-// ones that were read is plain from `read_and_derive` alone.
+// holds, so `strengths_of` says of some grids, with the tables that are lent, that the strengths are theirs
+// (`FromFile`); that they are the ones that were read is plain from `read_and_derive` alone.
 ghost use mathlib.Core.Path.{_≡_};
 ghost use mathlib.Core.Bool.{cond};
 ghost use Prim.Native.Nat.{_≤_};
@@ -11,6 +11,7 @@ ghost use Rattle.recordings.specs.Grids.{servedAt, derivedTo, DerivedAll
 ghost use Rattle.recordings.specs.Places.{columnAt, rowAt};
 use crate::bytes::byte_at;
 use crate::bytes::fill;
+use crate::bytes::joined;
 use crate::space;
 use sizes::Size;
 use strengths::calls::derive_mb;
@@ -24,9 +25,9 @@ fn signed(b: u8) -> i8 {
     !(below as i8)
 }
 
-// A number of two bytes, the lower one first.
-fn joined(low: u8, high: u8) -> i16 {
-    let all = low as u16 + 256 * (high as u16);
+// Two bytes that stand for -32768 to 32767.
+fn signed_pair(low: u8, high: u8) -> i16 {
+    let all = joined(low, high);
     if all < 32768 {
         return all as i16;
     }
@@ -42,7 +43,7 @@ fn references(to: &mut [i8], raw: &[u8]) {
 
 fn vectors(to: &mut [i16], raw: &[u8]) {
     for i in 0..to.len() {
-        to[i] = joined(byte_at(raw, 2 * i), byte_at(raw, 2 * i + 1));
+        to[i] = signed_pair(byte_at(raw, 2 * i), byte_at(raw, 2 * i + 1));
     }
 }
 
@@ -77,16 +78,34 @@ fn derive<'a>(
     mv0: &'a [i16],
     ref1: &[i8],
     mv1: &'a [i16],
+    pictures0: &[i32],
+    pictures1: &[i32],
     t8s: &[u8],
     s: &mut [u8],
 ) -> bool
-    ensures { λ r. ⌜ (r ≡ every n (servedAt size (now (t8s .entry)) (grids (now (inter .entry)) (now (nnz .entry)) (now (ref0 .entry)) (now (mv0 .entry)) (now (ref1 .entry)) (now (mv1 .entry))) (length (now (s .entry))))) × (now (s .exit) ≡ derivedTo size field (grids (now (inter .entry)) (now (nnz .entry)) (now (ref0 .entry)) (now (mv0 .entry)) (now (ref1 .entry)) (now (mv1 .entry))) (now (t8s .entry)) n (now (s .entry))) ⌝ }
+    ensures { λ r. ⌜ (r ≡ every n (servedAt size (now (t8s .entry)) (grids (now (inter .entry)) (now (nnz .entry)) (now (ref0 .entry)) (now (mv0 .entry)) (now (ref1 .entry)) (now (mv1 .entry)) (now (pictures0 .entry)) (now (pictures1 .entry))) (length (now (s .entry))))) × (now (s .exit) ≡ derivedTo size field (grids (now (inter .entry)) (now (nnz .entry)) (now (ref0 .entry)) (now (mv0 .entry)) (now (ref1 .entry)) (now (mv1 .entry)) (now (pictures0 .entry)) (now (pictures1 .entry))) (now (t8s .entry)) n (now (s .entry))) ⌝ }
 {
     let mut done = true;
     for i in 0..n {
         let x = column(i, size.w);
         let y = row(i, size.w);
-        done = done & (derive_mb(size, field, x, y, t8s, inter, nnz, ref0, mv0, ref1, mv1, s) == 0);
+        let answer = derive_mb(
+            size,
+            field,
+            x,
+            y,
+            t8s,
+            inter,
+            nnz,
+            ref0,
+            mv0,
+            ref1,
+            mv1,
+            pictures0,
+            pictures1,
+            s,
+        );
+        done = done & (answer == 0);
     }
     done
 }
@@ -148,13 +167,30 @@ fn read_and_derive(
     mv0: &mut [i16],
     ref1: &mut [i8],
     mv1: &mut [i16],
+    pictures0: &[i32],
+    pictures1: &[i32],
     t8s: &[u8],
     s: &mut [u8],
 ) -> bool
-    ensures { λ r. ⌜ DerivedAll size field (grids (now (inter .exit)) (now (nnz .exit)) (now (ref0 .exit)) (now (mv0 .exit)) (now (ref1 .exit)) (now (mv1 .exit))) (now (t8s .entry)) n (now (s .entry)) r (now (s .exit)) ⌝ }
+    ensures { λ r. ⌜ DerivedAll size field (grids (now (inter .exit)) (now (nnz .exit)) (now (ref0 .exit)) (now (mv0 .exit)) (now (ref1 .exit)) (now (mv1 .exit)) (now (pictures0 .entry)) (now (pictures1 .entry))) (now (t8s .entry)) n (now (s .entry)) r (now (s .exit)) ⌝ }
 {
     let whole = read(fd, inter, nnz, ref0, mv0, ref1, mv1);
-    whole & derive(size, field, n, inter, nnz, ref0, mv0, ref1, mv1, t8s, s)
+    whole
+        & derive(
+            size,
+            field,
+            n,
+            inter,
+            nnz,
+            ref0,
+            mv0,
+            ref1,
+            mv1,
+            pictures0,
+            pictures1,
+            t8s,
+            s,
+        )
 }
 
 // Reads the grids of at most 120 macroblocks and derives their strengths; false where there are more, the
@@ -165,10 +201,12 @@ pub fn strengths_of(
     field: bool,
     n: usize,
     lists: bool,
+    pictures0: &[i32],
+    pictures1: &[i32],
     t8s: &[u8],
     s: &mut [u8],
 ) -> bool
-    ensures { λ r. ⌜ FromFile size field (now (t8s .entry)) n (now (s .entry)) r (now (s .exit)) ⌝ }
+    ensures { λ r. ⌜ FromFile size field (now (pictures0 .entry)) (now (pictures1 .entry)) (now (t8s .entry)) n (now (s .entry)) r (now (s .exit)) ⌝ }
 {
     if 120 < n {
         return false;
@@ -183,5 +221,20 @@ pub fn strengths_of(
     let mv0 = &mut space::vectors()[..k2];
     let ref1 = &mut space::references()[..m];
     let mv1 = &mut space::vectors()[..m2];
-    read_and_derive(fd, size, field, n, inter, nnz, ref0, mv0, ref1, mv1, t8s, s)
+    read_and_derive(
+        fd,
+        size,
+        field,
+        n,
+        inter,
+        nnz,
+        ref0,
+        mv0,
+        ref1,
+        mv1,
+        pictures0,
+        pictures1,
+        t8s,
+        s,
+    )
 }

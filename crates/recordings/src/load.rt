@@ -4,6 +4,7 @@ ghost use Prim.Native.Nat.{_≤_};
 use crate::bytes::fill;
 use crate::grids;
 use crate::space;
+use crate::tables;
 use edges::Offsets;
 use sizes::Size;
 
@@ -22,13 +23,14 @@ pub fn three(fd: i32, a: &mut [u8], b: &mut [u8], c: &mut [u8]) -> bool {
 }
 
 // What a header says: the size and the number of macroblocks of a picture, whether there are two pictures,
-// list 1 and an 8x8 grid, whether the strengths are free of grids, the chroma offsets.
+// list 1, an 8x8 grid and reference tables, whether the strengths are free of grids, the chroma offsets.
 pub struct Head {
     pub size: Size,
     pub n: usize,
     pub two: bool,
     pub lists: bool,
     pub t8: bool,
+    pub tables: bool,
     pub free: bool,
     pub chroma_u: i32,
     pub chroma_v: i32,
@@ -64,10 +66,29 @@ fn at_most(k: usize, most: usize) -> usize
     most
 }
 
-// Reads the grids of a picture and its strengths s; made are those that are derived from the grids.
-fn load_strengths(fd: i32, head: Head, t: &[u8], made: &mut [u8], s: &mut [u8]) -> Strengths {
+// Reads the grids of a picture and its strengths s; made are those that are derived from the grids and the
+// tables.
+fn load_strengths(
+    fd: i32,
+    head: Head,
+    pictures0: &[i32],
+    pictures1: &[i32],
+    t: &[u8],
+    made: &mut [u8],
+    s: &mut [u8],
+) -> Strengths {
     let n = grids::only_if(!head.free, head.n);
-    let derived = grids::strengths_of(fd, head.size, head.two, n, head.lists, t, made);
+    let derived = grids::strengths_of(
+        fd,
+        head.size,
+        head.two,
+        n,
+        head.lists,
+        pictures0,
+        pictures1,
+        t,
+        made,
+    );
     let last = fill(fd, s);
     Strengths {
         good: derived & last,
@@ -75,13 +96,26 @@ fn load_strengths(fd: i32, head: Head, t: &[u8], made: &mut [u8], s: &mut [u8]) 
     }
 }
 
-// Reads the parts of a picture, in the file's order: offsets, QPs q, 8x8 flags t, grids, strengths s.
+// Reads the parts of a picture, in the file's order: offsets, tables, QPs q, 8x8 flags t, grids, strengths s.
 pub fn load(fd: i32, head: Head, q: &mut [u8], t: &mut [u8], s: &mut [u8]) -> Loaded {
     let mut ab = [0u8; 2];
-    let first = three(fd, &mut ab, q, t);
+    let offsets = fill(fd, &mut ab);
+    let mut pictures0 = space::pictures();
+    let mut pictures1 = space::pictures();
+    let list0 = tables::read_if(head.tables, fd, &mut pictures0);
+    let list1 = tables::read_if(head.tables, fd, &mut pictures1);
+    let first = offsets & list0.good & list1.good & fill(fd, q) & fill(fd, t);
     let mut made = space::strengths();
     let k = at_most(s.len(), 3840);
-    let last = load_strengths(fd, head, t, &mut made[..k], s);
+    let last = load_strengths(
+        fd,
+        head,
+        &pictures0[..list0.count],
+        &pictures1[..list1.count],
+        t,
+        &mut made[..k],
+        s,
+    );
     let o = Offsets {
         a: offset(ab[0]),
         b: offset(ab[1]),

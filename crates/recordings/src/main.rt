@@ -13,6 +13,7 @@ mod grids;
 mod load;
 mod orders;
 mod space;
+mod tables;
 mod ways;
 
 use both::Shape;
@@ -149,12 +150,12 @@ fn in_space(fd: i32, head: Head) -> bool
     replay(fd, head, luma, u, v, ay, au, av, s, q, t, s2, q2, t2)
 }
 
-// A header of eight bits, a frame or two fields, no slices and no reference tables.
+// A header of eight bits, a frame or two fields, no slices.
 fn known(head: &[u8; 14]) -> bool {
     let magic = (head[0] == b'D') & (head[1] == b'B') & (head[2] == b'V') & (head[3] == b'1');
     let small = (head[5] == 0) & (head[7] == 0);
     let pictures = (head[8] == 8) & ((head[9] == 1) | (head[9] == 2));
-    let flags = (head[10] / 4 % 4 == 0) & (head[10] < 32);
+    let flags = !has(head[10], 4) & (head[10] < 32);
     magic & small & pictures & flags & (head[13] == 0)
 }
 
@@ -207,6 +208,7 @@ fn recording(fd: i32, name: &[u8]) -> bool {
             two,
             lists: has(head[10], 1),
             t8: has(head[10], 2),
+            tables: has(head[10], 8),
             free: has(head[10], 16) & (head[11] == head[12]),
             chroma_u: load::offset(head[11]),
             chroma_v: load::offset(head[12]),

@@ -1,5 +1,5 @@
-// Zeros, for grids of at most 120 macroblocks: the largest recording has so many. That the length is told too
-// lets a part of it be lent with no proof.
+// Zeros, for grids of at most 120 macroblocks, since the largest recording has so many, and for tables. That
+// the length is told too lets a part of it be lent with no proof.
 ghost use mathlib.Core.Path.{_≡_};
 ghost use lib.ListN.{length};
 ghost use Rattle.recordings.specs.Bytes.{zeros, signedZeros};
@@ -30,6 +30,13 @@ pub fn vectors() -> [i16; 3840]
     ensures { λ r. ⌜ r ≡ signedZeros 3840 ⌝ }
 {
     [0; 3840]
+}
+
+pub fn pictures() -> [i32; 64]
+    ensures { λ r. ⌜ 64 ≡ length r ⌝ }
+    ensures { λ r. ⌜ r ≡ signedZeros 64 ⌝ }
+{
+    [0; 64]
 }
 
 pub fn strengths() -> [u8; 3840]

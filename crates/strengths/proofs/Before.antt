@@ -1,14 +1,13 @@
 -- The definitions at the values that they had first: the mode of frames, and a call that is told it is no
--- field; a reference's own number. BeforeFlags has those of 8x8 flags. A change that widens one of them
+-- field. BeforeFlags has those of 8x8 flags, BeforePictures those of tables. A change that widens one of them
 -- keeps these laws at the neutral value. Assumes nothing.
 use mathlib.Core.Path.{_≡_, refl, sym, ap, _∙_}
 use mathlib.Core.Bool.{Bool, true, false, cond, _&&_, _||_}
 use mathlib.Core.List.{List}
 use Prim.Native.Nat.{ℕ, _+_, _-_, _*_}
 use lib.Dec.{eqb}
-use lib.IntN.{ℤ}
 use lib.ListN.{length}
-use Rattle.motion.specs.Grids.{Grids, namedBy, blkAt}
+use Rattle.motion.specs.Grids.{Grids, blkAt}
 use Rattle.motion.specs.Motion.{interStrength}
 use Rattle.motion.specs.declared.blocks.Blk.{Blk}
 use Rattle.sizes.specs.Entries.{flagAt}
@@ -54,7 +53,3 @@ module _ (size : Size) (x y : ℕ) (t8s : List ℕ) (g : Grids) (untrue : Bool) 
       × (FrameCall size x y t8s g untrue s n s′ → DeriveOutcome size false x y t8s g untrue s n s′)
   frame-call-before =
       (λ r. record { says = r .says; leaves = r .leaves ∙ spelled }, λ r. record { says = r .says; leaves = r .leaves ∙ sym spelled })
-
--- ---- a reference names the picture of its number
-pub named-before : (r : ℤ) → namedBy r ≡ r
-named-before r = refl

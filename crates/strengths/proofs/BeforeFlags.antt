@@ -1,7 +1,7 @@
 -- Strengths and calls where 8x8 flags tell nothing new: none is set, or the four counts of every 8x8 block
 -- tell the same. There they are what they were when strengths looked at own counts alone. Assumes nothing.
 use mathlib.Core.Path.{_≡_, refl, sym, ap, _∙_}
-use mathlib.Core.Bool.{Bool, true, false, cond, not, _||_, true≢false}
+use mathlib.Core.Bool.{Bool, true, false, cond, not, _||_, or-false, true≢false}
 use mathlib.Core.List.{List, [], _∷_}
 use Prim.Native.Nat.{ℕ, _+_, _-_, _*_, _<_}
 use lib.Dec.{eqb, ltb}
@@ -17,7 +17,7 @@ use Rattle.sizes.specs.Sizes.{badSize, outsideOf}
 use Rattle.sizes.specs.declared.Size.{Size}
 use Rattle.strengths.specs.Blocks.{macroblockOf, inEight}
 use Rattle.strengths.specs.Calls.{answerOf, DeriveOutcome}
-use Rattle.strengths.specs.Checks.{badBlocks, badInter, badFlags, badRefs, disagree}
+use Rattle.strengths.specs.Checks.{badBlocks, badInter, badFlags, badRefs, badPictures, disagree}
 use Rattle.strengths.specs.Strength.{qBlock, pBlock, border, skipped, modeOf, intraStrength, coded, between, strengthAt, written}
 use Rattle.strengths.specs.declared.kinds.Mode.{Mode}
 
@@ -63,6 +63,7 @@ ownAnswer size x y g untrue four seven =
     ∷ (5, badBlocks (16 * (size .w * size .h)) g)
     ∷ (7, seven)
     ∷ (10, badRefs g (size .w) x y)
+    ∷ (22, badPictures g)
     ∷ (11, disagree (g .inter) (size .w) x y)
     ∷ (12, untrue)
     ∷ [])
@@ -89,18 +90,14 @@ unset-fine t8s h w x y =
     and-false (not (eqb (length t8s) 0))
     (λ j. f (y * w + x) j || and-false (ltb 0 x) (f (y * w + x - 1)) j || and-false (ltb 0 y) (f (y * w + x - w)) j)
 
-or-none : (a : Bool) → (a || false) ≡ a
-or-none true = refl
-or-none false = refl
-
 module _ (size : Size) (field : Bool) (x y : ℕ) (t8s : List ℕ) (g : Grids) (untrue : Bool) (s : List ℕ) (n : ℕ) (s′ : List ℕ) (unset : Unset (size .w * size .h) t8s) where
   four-seven : answerOf size x y t8s g untrue (length s) ≡ ownAnswer size x y g untrue (not (eqb (length s) (32 * (size .w * size .h)))) (badInter g (size .w) x y)
   unfolding answerOf
   four-seven =
       let long = not (eqb (length s) (32 * (size .w * size .h))) in
       let inter = badInter g (size .w) x y in
-      let a = ap (λ (b : Bool). long || b) (unset .fits) ∙ or-none long in
-      let b = ap (λ (b : Bool). inter || b) (unset-fine t8s (unset .zeros) (size .w) x y) ∙ or-none inter in
+      let a = ap (λ (b : Bool). long || b) (unset .fits) ∙ or-false long in
+      let b = ap (λ (b : Bool). inter || b) (unset-fine t8s (unset .zeros) (size .w) x y) ∙ or-false inter in
       λ i. ownAnswer size x y g untrue (a i) (b i)
 
   plainly : cond (eqb n 0) (written (y * size .w + x) (strengthAt (modeOf field) g (size .w) (flagAt t8s) x y) s) s

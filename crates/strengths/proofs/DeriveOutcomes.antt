@@ -35,7 +35,7 @@ module _ (size : Size) (x y : ℕ) (t8s : List ℕ) (g : Grids) (n : ℕ) where
       passes 11 (deriveChecks size x y t8s g n) tt e
 
   -- ---- the answer, by the checks before 12
-  answer-cut : (untrue : Bool) → answerOf size x y t8s g untrue n ≡ cond (eqb (refusal (deriveChecks size x y t8s g n)) 0) (cond untrue 12 0) (refusal (deriveChecks size x y t8s g n))
+  pub answer-cut : (untrue : Bool) → answerOf size x y t8s g untrue n ≡ cond (eqb (refusal (deriveChecks size x y t8s g n)) 0) (cond untrue 12 0) (refusal (deriveChecks size x y t8s g n))
   unfolding answerOf
   answer-cut untrue = refusal-cut (deriveChecks size x y t8s g n) ((12, untrue) ∷ []) tt
 

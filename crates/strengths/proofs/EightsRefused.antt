@@ -10,6 +10,7 @@ use Rattle.laws.specs.Some.{some}
 use Rattle.motion.specs.Far.{outside}
 use Rattle.motion.specs.Grids.{counted, blockRead, blkAt}
 use Rattle.motion.specs.Motion.{used, mismatched, differ, interStrength}
+use Rattle.motion.specs.Pictures.{namedBy}
 use Rattle.sizes.specs.Entries.{flagAt}
 use Rattle.strengths.specs.Blocks.{inEight}
 use Rattle.strengths.specs.Calls.{DeriveOutcome, KindOutcome}
@@ -46,7 +47,7 @@ byWay t8s way k =
 -- 8x8 blocks on q's side only: p's own count, where the left macroblock is 8x8
 pub eights-of-q-only : (s : List ℕ) → s ≡ written 1 (byWay (flagAt (1 ∷ 0 ∷ [])) (counted (leftCount .nnz))) (replicate 64 0)
     → DeriveOutcome wideTwo false 1 0 (1 ∷ 0 ∷ []) leftCount false (replicate 64 0) 0 s → ⊥
-unfolding strengthAt coded flagAt some between blockRead interStrength differ mismatched used outside
+unfolding strengthAt coded flagAt some between blockRead interStrength namedBy differ mismatched used outside
 eights-of-q-only s e r =
     let z : _≡_ {A = ℕ} 0 2 = agree-right (byWay (flagAt (1 ∷ 0 ∷ [])) (counted (leftCount .nnz))) (strengthAt frame leftCount 2 (flagAt (1 ∷ 0 ∷ [])) 1 0) e (r .leaves) in
     omega arith
@@ -57,7 +58,7 @@ nearest i = some 2 (λ r. counted (leftCount .nnz) (inEight 2 i r 1))
 
 pub four-nearest : (s : List ℕ) → s ≡ written 1 (byWay (flagAt (1 ∷ 0 ∷ [])) nearest) (replicate 64 0)
     → DeriveOutcome wideTwo false 1 0 (1 ∷ 0 ∷ []) leftCount false (replicate 64 0) 0 s → ⊥
-unfolding strengthAt coded flagAt some between blockRead interStrength differ mismatched used outside
+unfolding strengthAt coded flagAt some between blockRead interStrength namedBy differ mismatched used outside
 four-nearest s e r =
     let z : _≡_ {A = ℕ} 0 2 = agree-right (byWay (flagAt (1 ∷ 0 ∷ [])) nearest) (strengthAt frame leftCount 2 (flagAt (1 ∷ 0 ∷ [])) 1 0) e (r .leaves) in
     omega arith
@@ -65,7 +66,7 @@ four-nearest s e r =
 -- the own flag used for the neighbour, where the own one alone is set
 pub own-for-left : (s : List ℕ) → s ≡ written 1 (byWay (flagAt (0 ∷ 1 ∷ [])) (coded leftCount 2 (λ i. true))) (replicate 64 0)
     → DeriveOutcome wideTwo false 1 0 (0 ∷ 1 ∷ []) leftCount false (replicate 64 0) 0 s → ⊥
-unfolding strengthAt coded flagAt some between blockRead interStrength differ mismatched used outside
+unfolding strengthAt coded flagAt some between blockRead interStrength namedBy differ mismatched used outside
 own-for-left s e r =
     let z : _≡_ {A = ℕ} 2 0 = agree-right (byWay (flagAt (0 ∷ 1 ∷ [])) (coded leftCount 2 (λ i. true))) (strengthAt frame leftCount 2 (flagAt (0 ∷ 1 ∷ [])) 1 0) e (r .leaves) in
     omega arith

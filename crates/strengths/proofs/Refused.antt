@@ -14,9 +14,10 @@ use Rattle.laws.specs.Some.{some}
 use Rattle.motion.specs.Far.{outside}
 use Rattle.motion.specs.Grids.{Grids, grids, counted, blockRead, blkAt}
 use Rattle.motion.specs.Motion.{used, mismatched, differ, interStrength}
+use Rattle.motion.specs.Pictures.{namedBy}
 use Rattle.sizes.specs.Entries.{flagAt}
 use Rattle.strengths.specs.Blocks.{someRead}
-use Rattle.strengths.specs.Checks.{badInter, badRefs, disagree}
+use Rattle.strengths.specs.Checks.{badInter, badRefs, badTable, disagree}
 use Rattle.strengths.specs.Calls.{lengthChecks, answerOf, DeriveOutcome}
 use Rattle.strengths.specs.Strength.{vertical, edge, qBlock, pBlock, frame, field, skipped, coded, between, strengthAt, written}
 use Rattle.strengths.specs.ByKind.{strengthBy}
@@ -60,7 +61,7 @@ not-upright h = false≢true (h 20)
 -- ---- motion inside a macroblock not compared, as if it were uniform: the first block moves, and byte 4,
 -- between it and the next, has 1
 pub not-as-uniform : strengthBy InterUniform frame (firstMoved (pos 4) (pos 0)) 1 (record { own = false; left = false; above = false }) 0 0 4 ≡ movedBy frame (pos 4) (pos 0) 4 → ⊥
-unfolding strengthBy codedBy strengthAt coded flagAt between blockRead interStrength differ mismatched used outside
+unfolding strengthBy codedBy strengthAt coded flagAt between blockRead interStrength namedBy differ mismatched used outside
 not-as-uniform e = let k : _≡_ {A = ℕ} 0 1 = e in omega arith
 
 -- ---- one block's coefficients ignored: only the block to the left has any, and byte 0 has 2
@@ -68,7 +69,7 @@ abbrev qCount : Grids → ℕ → ℕ → ℕ → ℕ → ℕ
 qCount g w x y k = between 3 3 (counted (g .nnz) (qBlock w x y k)) (blkAt g (pBlock w x y k)) (blkAt g (qBlock w x y k))
 
 pub not-own-count : qCount besideMoved 2 1 0 0 ≡ strengthAt frame besideMoved 2 (flagAt []) 1 0 0 → ⊥
-unfolding strengthAt coded flagAt between blockRead interStrength differ mismatched used outside
+unfolding strengthAt coded flagAt between blockRead interStrength namedBy differ mismatched used outside
 not-own-count e = let k : _≡_ {A = ℕ} 1 2 = e in omega arith
 
 -- ---- 11 before 10: block 5 alone is inter, and its reference is -2. The answer is 10
@@ -79,13 +80,13 @@ mixedInter =
     (replicate 16 0)
     (replicate 5 (negsuc 0) ++ negsuc 1 ∷ replicate 10 (negsuc 0))
     (replicate 32 (pos 0))
-    [] []
+    [] [] [] []
 
 abbrev exchanged : ℕ
 exchanged = refusal (lengthChecks oneMb 0 0 [] mixedInter 32 ++ (7, badInter mixedInter 1 0 0) ∷ (11, disagree (mixedInter .inter) 1 0 0) ∷ (10, badRefs mixedInter 1 0 0) ∷ [])
 
 pub not-exchanged : exchanged ≡ answerOf oneMb 0 0 [] mixedInter false 32 → ⊥
-unfolding answerOf someRead some disagree
+unfolding answerOf someRead some disagree badTable
 not-exchanged e = let k : _≡_ {A = ℕ} 11 10 = e in omega arith
 
 -- ---- 4 on the upper edge of a field: byte 16 of the lower of two intra macroblocks has 3
@@ -105,7 +106,7 @@ field-left-not-3 s e r =
 -- ---- far from 4 on in a field, as in a frame: the first block moves down by 2, and byte 4 has 1
 pub field-not-late : (s : List ℕ) → s ≡ written 0 (movedBy (record { limit = 3; upper = 3 }) (pos 0) (pos 2)) unwritten
     → DeriveOutcome oneMb true 0 0 [] (firstMoved (pos 0) (pos 2)) false unwritten 0 s → ⊥
-unfolding strengthAt coded flagAt between blockRead interStrength differ mismatched used outside
+unfolding strengthAt coded flagAt between blockRead interStrength namedBy differ mismatched used outside
 field-not-late s e r =
     let z : _≡_ {A = ℕ} 0 1 = agree (movedBy (record { limit = 3; upper = 3 }) (pos 0) (pos 2)) (movedBy field (pos 0) (pos 2)) 4 (ltb-true 4 32 refl) e (r .leaves) in
     omega arith
@@ -113,7 +114,7 @@ field-not-late s e r =
 -- ---- a frame call by the mode of fields: there it has 0
 pub frame-not-field : (s : List ℕ) → s ≡ written 0 (movedBy field (pos 0) (pos 2)) unwritten
     → DeriveOutcome oneMb false 0 0 [] (firstMoved (pos 0) (pos 2)) false unwritten 0 s → ⊥
-unfolding strengthAt coded flagAt between blockRead interStrength differ mismatched used outside
+unfolding strengthAt coded flagAt between blockRead interStrength namedBy differ mismatched used outside
 frame-not-field s e r =
     let z : _≡_ {A = ℕ} 1 0 = agree (movedBy field (pos 0) (pos 2)) (movedBy frame (pos 0) (pos 2)) 4 (ltb-true 4 32 refl) e (r .leaves) in
     omega arith

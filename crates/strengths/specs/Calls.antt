@@ -1,7 +1,7 @@
 -- What the three strength calls promise: one answer and one final content of the strengths grid, for every
--- input. The flags t8s and the grids g are only read. The numbers are those of docs/RULES.md, "Answers", the
--- strengths those of ITU-T H.264, clause 8.7.2.1 (`strengthAt`): of a field where `field` is true, else of a
--- frame. No check and no answer depends on which.
+-- input. The flags t8s and the grids g, with the tables of their lists, are only read. The numbers are those
+-- of docs/RULES.md, "Answers", the strengths those of ITU-T H.264, clause 8.7.2.1 (`strengthAt`): of a field
+-- where `field` is true, else of a frame. No check and no answer depends on which.
 use Prim.Native.Nat.{ℕ, _+_, _*_}
 use mathlib.Core.Path.{_≡_}
 use mathlib.Core.Bool.{Bool, false, cond, not, _&&_, _||_}
@@ -12,14 +12,14 @@ use Rattle.laws.specs.Refusal.{refusal}
 use Rattle.motion.specs.Grids.{Grids}
 use Rattle.sizes.specs.Entries.{flagAt}
 use Rattle.sizes.specs.Sizes.{badSize, outsideOf}
-use Rattle.strengths.specs.Checks.{badByMacroblock, badBlocks, badInter, badFlags, badRefs, disagree}
+use Rattle.strengths.specs.Checks.{badByMacroblock, badBlocks, badInter, badFlags, badRefs, badPictures, disagree}
 use Rattle.strengths.specs.Kinds.{isKind, flat, uniform}
 use Rattle.strengths.specs.Strength.{modeOf, strengthAt, written}
 use Rattle.sizes.specs.declared.Size.{Size}
 use Rattle.strengths.specs.declared.kinds.Request.{Request}
 use Rattle.strengths.specs.declared.kinds.Flagged.{Flagged}
 
--- ---- checks 1 to 11; n is the length of the strengths grid
+-- ---- checks 1 to 11, with 22 after 10; n is the length of the strengths grid
 abbrev pub lengthChecks : Size → ℕ → ℕ → List ℕ → Grids → ℕ → List (ℕ × Bool)
 lengthChecks size x y t8s g n =
     (1, badSize size)
@@ -30,7 +30,11 @@ lengthChecks size x y t8s g n =
 
 abbrev pub valueChecks : Size → ℕ → ℕ → List ℕ → Grids → List (ℕ × Bool)
 valueChecks size x y t8s g =
-    (7, badInter g (size .w) x y || badFlags t8s (size .w) x y) ∷ (10, badRefs g (size .w) x y) ∷ (11, disagree (g .inter) (size .w) x y) ∷ []
+    (7, badInter g (size .w) x y || badFlags t8s (size .w) x y)
+    ∷ (10, badRefs g (size .w) x y)
+    ∷ (22, badPictures g)
+    ∷ (11, disagree (g .inter) (size .w) x y)
+    ∷ []
 
 abbrev pub deriveChecks : Size → ℕ → ℕ → List ℕ → Grids → ℕ → List (ℕ × Bool)
 deriveChecks size x y t8s g n = lengthChecks size x y t8s g n ++ valueChecks size x y t8s g

@@ -3,12 +3,13 @@ use Prim.Native.Nat.{ℕ, _-_, _*_}
 use mathlib.Core.Bool.{Bool, not, _&&_, _||_}
 use mathlib.Core.List.{List}
 use lib.Dec.{eqb, ltb}
-use lib.IntN.{ℤ, negsuc}
+use lib.IntN.{ℤ, pos}
 use lib.ListN.{length, getD}
 use lib.Signed.{ltZ}
 use Rattle.laws.specs.Some.{some}
 use Rattle.sizes.specs.Entries.{badFlagCount, badFlag, badNear}
 use Rattle.motion.specs.Grids.{Grids, refAt}
+use Rattle.motion.specs.Pictures.{none}
 use Rattle.strengths.specs.Blocks.{origin, ownBlock, leftBlock, aboveBlock, someRead}
 
 -- 4: the strengths grid has the wrong length n, or that of the flags the wrong length t8s
@@ -24,8 +25,15 @@ badLengths n inter nnz ref0 mv0 ref1 mv1 =
     || not (eqb mv0 (2 * n))
     || not ((eqb ref1 0 && eqb mv1 0) || (eqb ref1 n && eqb mv1 (2 * n)))
 
+-- .. or just one table is empty, unless it is list 1's and list 1 is not lent
+abbrev pub oneTable : ℕ → ℕ → ℕ → Bool
+oneTable ref1 pictures0 pictures1 =
+    (eqb pictures0 0 && not (eqb pictures1 0)) || (not (eqb pictures0 0) && eqb pictures1 0 && not (eqb ref1 0))
+
 abbrev pub badBlocks : ℕ → Grids → Bool
-badBlocks n g = badLengths n (length (g .inter)) (length (g .nnz)) (length (g .ref0)) (length (g .mv0)) (length (g .ref1)) (length (g .mv1))
+badBlocks n g =
+    badLengths n (length (g .inter)) (length (g .nnz)) (length (g .ref0)) (length (g .mv0)) (length (g .ref1)) (length (g .mv1))
+    || oneTable (length (g .ref1)) (length (g .pictures0)) (length (g .pictures1))
 
 -- 7: an inter byte that is read is not 0 or 1; nor is a flag, of the macroblock or of its left or upper
 -- neighbour, unless the grid of flags is empty
@@ -37,10 +45,21 @@ badFlags t8s w x y = not (eqb (length t8s) 0) && badNear badFlag t8s w x y
 
 -- 10: a reference number that is read is below -1, in a list that is lent
 abbrev pub belowNone : List ℤ → ℕ → Bool
-belowNone refs i = ltZ (refAt refs i) (negsuc 0)
+belowNone refs i = ltZ (refAt refs i) none
 
 abbrev pub badRefs : Grids → ℕ → ℕ → ℕ → Bool
 badRefs g w x y = someRead w x y (belowNone (g .ref0)) || someRead w x y (belowNone (g .ref1))
+
+-- 22: an entry of a table is no picture's number, whether a block names it or not, and of list 1's table
+-- whether list 1 is lent or not
+abbrev pub notPicture : ℤ → Bool
+notPicture p = ltZ p (pos 0) || ltZ (pos 65535) p
+
+unfoldable pub badTable : List ℤ → Bool
+badTable pictures = some (length pictures) (λ i. notPicture (getD pictures i (pos 0)))
+
+abbrev pub badPictures : Grids → Bool
+badPictures g = badTable (g .pictures0) || badTable (g .pictures1)
 
 -- 11: the 16 blocks, the 4 to the left or the 4 above disagree on inter
 abbrev pub differs : List ℕ → ℕ → ℕ → Bool

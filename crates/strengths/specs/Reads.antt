@@ -5,8 +5,10 @@ use Prim.Native.Nat.{ℕ, _+_, _-_, _*_, _<_}
 use mathlib.Core.Path.{_≡_}
 use mathlib.Core.Bool.{Bool, true}
 use mathlib.Core.List.{List}
+use lib.IntN.{ℤ}
 use lib.ListN.{length, getD}
-use Rattle.motion.specs.Grids.{Grids, counted, motionAt}
+use Rattle.motion.specs.Grids.{Grids, counted, refAt, vectorAt}
+use Rattle.motion.specs.declared.blocks.Motion.{Motion}
 use Rattle.sizes.specs.Entries.{flagAt}
 use Rattle.strengths.specs.Blocks.{ownBlock, leftBlock, aboveBlock}
 
@@ -32,15 +34,21 @@ pub record EqualLengths (t8s t8s′ : List ℕ) (g g′ : Grids) : Type 0 where
   pub refs1 : length (g .ref1) ≡ length (g′ .ref1)
   pub mvs1 : length (g .mv1) ≡ length (g′ .mv1)
 
--- block i is inter in both or in none, with the same motion in each list
+-- block i is inter in both or in none, with the same reference and vector in each list
+abbrev pub storedAt : List ℤ → List ℤ → ℕ → Motion
+storedAt refs mvs i = vectorAt (refAt refs i) mvs i
+
 pub record SameBlock (g g′ : Grids) (i : ℕ) : Type 0 where
   pub inter : getD (g .inter) i 0 ≡ getD (g′ .inter) i 0
-  pub list0 : motionAt (g .ref0) (g .mv0) i ≡ motionAt (g′ .ref0) (g′ .mv0) i
-  pub list1 : motionAt (g .ref1) (g .mv1) i ≡ motionAt (g′ .ref1) (g′ .mv1) i
+  pub list0 : storedAt (g .ref0) (g .mv0) i ≡ storedAt (g′ .ref0) (g′ .mv0) i
+  pub list1 : storedAt (g .ref1) (g .mv1) i ≡ storedAt (g′ .ref1) (g′ .mv1) i
 
--- which agree on three flags, on the blocks beside the edges, and on which of the counts that are read are 0
+-- which agree on the tables, on three flags, on the blocks beside the edges, and on which of the counts that
+-- are read are 0
 pub record SameReads (w x y : ℕ) (t8s t8s′ : List ℕ) (g g′ : Grids) : Type 0 where
   pub long : EqualLengths t8s t8s′ g g′
+  pub table0 : g .pictures0 ≡ g′ .pictures0
+  pub table1 : g .pictures1 ≡ g′ .pictures1
   pub flag : getD t8s (y * w + x) 0 ≡ getD t8s′ (y * w + x) 0
   pub flag-left : 0 < x → getD t8s (y * w + x - 1) 0 ≡ getD t8s′ (y * w + x - 1) 0
   pub flag-above : 0 < y → getD t8s (y * w + x - w) 0 ≡ getD t8s′ (y * w + x - w) 0

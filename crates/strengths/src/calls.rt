@@ -38,18 +38,20 @@ fn untrue_known<'a>(
     mv0: &'a [i16],
     ref1: &[i8],
     mv1: &'a [i16],
+    pictures0: &[i32],
+    pictures1: &[i32],
 ) -> bool
     requires { ⌜ Hold (now inter) (now ref0) (now mv0) (now ref1) (now mv1) (ownBlock w x y 3 3 + 1) ⌝ }
     requires { ⌜ InGrids w x y (length (now nnz)) ⌝ }
     requires { ⌜ InGrids w x y 589824 ⌝ }
     requires { ⌜ disagree (now inter) w x y ≡ false ⌝ }
-    ensures { λ r. ⌜ r ≡ untrueKnown known (grids (now (inter .entry)) (now (nnz .entry)) (now (ref0 .entry)) (now (mv0 .entry)) (now (ref1 .entry)) (now (mv1 .entry))) w x y ⌝ }
+    ensures { λ r. ⌜ r ≡ untrueKnown known (grids (now (inter .entry)) (now (nnz .entry)) (now (ref0 .entry)) (now (mv0 .entry)) (now (ref1 .entry)) (now (mv1 .entry)) (now (pictures0 .entry)) (now (pictures1 .entry))) w x y ⌝ }
 {
     if !says_any(known) {
         return false;
     }
     let at = 16 * (y * w) + 4 * x;
-    let same = own_same(inter, ref0, mv0, ref1, mv1, at, 4 * w);
+    let same = own_same(inter, ref0, mv0, ref1, mv1, pictures0, pictures1, at, 4 * w);
     let counted = own_have(Sought::Above(0), nnz, ref0, at, 4 * w);
     untrue_by(known, inter[at] == 1, same, counted)
 }
@@ -76,9 +78,11 @@ fn derive_known<'a>(
     mv0: &'a [i16],
     ref1: &[i8],
     mv1: &'a [i16],
+    pictures0: &[i32],
+    pictures1: &[i32],
     strengths: &mut [u8],
 ) -> u32
-    ensures { λ n. ⌜ DeriveOutcome size field x y (now (t8s .entry)) (grids (now (inter .entry)) (now (nnz .entry)) (now (ref0 .entry)) (now (mv0 .entry)) (now (ref1 .entry)) (now (mv1 .entry))) (untrueKnown known (grids (now (inter .entry)) (now (nnz .entry)) (now (ref0 .entry)) (now (mv0 .entry)) (now (ref1 .entry)) (now (mv1 .entry))) (size .w) x y) (now (strengths .entry)) n (now (strengths .exit)) ⌝ }
+    ensures { λ n. ⌜ DeriveOutcome size field x y (now (t8s .entry)) (grids (now (inter .entry)) (now (nnz .entry)) (now (ref0 .entry)) (now (mv0 .entry)) (now (ref1 .entry)) (now (mv1 .entry)) (now (pictures0 .entry)) (now (pictures1 .entry))) (untrueKnown known (grids (now (inter .entry)) (now (nnz .entry)) (now (ref0 .entry)) (now (mv0 .entry)) (now (ref1 .entry)) (now (mv1 .entry)) (now (pictures0 .entry)) (now (pictures1 .entry))) (size .w) x y) (now (strengths .entry)) n (now (strengths .exit)) ⌝ }
 {
     let w = size.w;
     let n = refuse_derive(
@@ -93,11 +97,26 @@ fn derive_known<'a>(
         mv0,
         ref1,
         mv1,
+        pictures0,
+        pictures1,
     );
     if n != 0 {
         return n;
     }
-    if untrue_known(known, w, x, y, inter, nnz, ref0, mv0, ref1, mv1) {
+    if untrue_known(
+        known,
+        w,
+        x,
+        y,
+        inter,
+        nnz,
+        ref0,
+        mv0,
+        ref1,
+        mv1,
+        pictures0,
+        pictures1,
+    ) {
         return 12;
     }
     let kind = kind_known(known, first_inter(inter, w, x, y));
@@ -116,6 +135,8 @@ fn derive_known<'a>(
         mv0,
         ref1,
         mv1,
+        pictures0,
+        pictures1,
         strengths,
     );
     0
@@ -133,9 +154,11 @@ pub fn derive_mb_kind<'a>(
     mv0: &'a [i16],
     ref1: &[i8],
     mv1: &'a [i16],
+    pictures0: &[i32],
+    pictures1: &[i32],
     strengths: &mut [u8],
 ) -> u32
-    ensures { λ n. ⌜ KindOutcome size field r (now (t8s .entry)) (grids (now (inter .entry)) (now (nnz .entry)) (now (ref0 .entry)) (now (mv0 .entry)) (now (ref1 .entry)) (now (mv1 .entry))) (now (strengths .entry)) n (now (strengths .exit)) ⌝ }
+    ensures { λ n. ⌜ KindOutcome size field r (now (t8s .entry)) (grids (now (inter .entry)) (now (nnz .entry)) (now (ref0 .entry)) (now (mv0 .entry)) (now (ref1 .entry)) (now (mv1 .entry)) (now (pictures0 .entry)) (now (pictures1 .entry))) (now (strengths .entry)) n (now (strengths .exit)) ⌝ }
 {
     let kind = r.kind;
     let known = Known::Stated(kind);
@@ -152,6 +175,8 @@ pub fn derive_mb_kind<'a>(
         mv0,
         ref1,
         mv1,
+        pictures0,
+        pictures1,
         strengths,
     )
 }
@@ -168,9 +193,11 @@ pub fn derive_mb_bs<'a>(
     mv0: &'a [i16],
     ref1: &[i8],
     mv1: &'a [i16],
+    pictures0: &[i32],
+    pictures1: &[i32],
     strengths: &mut [u8],
 ) -> u32
-    ensures { λ n. ⌜ FlagsOutcome size field f (now (t8s .entry)) (grids (now (inter .entry)) (now (nnz .entry)) (now (ref0 .entry)) (now (mv0 .entry)) (now (ref1 .entry)) (now (mv1 .entry))) (now (strengths .entry)) n (now (strengths .exit)) ⌝ }
+    ensures { λ n. ⌜ FlagsOutcome size field f (now (t8s .entry)) (grids (now (inter .entry)) (now (nnz .entry)) (now (ref0 .entry)) (now (mv0 .entry)) (now (ref1 .entry)) (now (mv1 .entry)) (now (pictures0 .entry)) (now (pictures1 .entry))) (now (strengths .entry)) n (now (strengths .exit)) ⌝ }
 {
     let known = Known::Flags {
         flat: f.flat,
@@ -189,6 +216,8 @@ pub fn derive_mb_bs<'a>(
         mv0,
         ref1,
         mv1,
+        pictures0,
+        pictures1,
         strengths,
     )
 }
@@ -206,9 +235,11 @@ pub fn derive_mb<'a>(
     mv0: &'a [i16],
     ref1: &[i8],
     mv1: &'a [i16],
+    pictures0: &[i32],
+    pictures1: &[i32],
     strengths: &mut [u8],
 ) -> u32
-    ensures { λ n. ⌜ PlainOutcome size field x y (now (t8s .entry)) (grids (now (inter .entry)) (now (nnz .entry)) (now (ref0 .entry)) (now (mv0 .entry)) (now (ref1 .entry)) (now (mv1 .entry))) (now (strengths .entry)) n (now (strengths .exit)) ⌝ }
+    ensures { λ n. ⌜ PlainOutcome size field x y (now (t8s .entry)) (grids (now (inter .entry)) (now (nnz .entry)) (now (ref0 .entry)) (now (mv0 .entry)) (now (ref1 .entry)) (now (mv1 .entry)) (now (pictures0 .entry)) (now (pictures1 .entry))) (now (strengths .entry)) n (now (strengths .exit)) ⌝ }
 {
     let known = Known::Flags {
         flat: false,
@@ -227,6 +258,8 @@ pub fn derive_mb<'a>(
         mv0,
         ref1,
         mv1,
+        pictures0,
+        pictures1,
         strengths,
     )
 }

@@ -1,6 +1,6 @@
-// The checks of a strength call, in the order of their numbers.
+// The checks of a strength call, in the order of their numbers, but 22 right after 10.
 ghost use mathlib.Core.Path.{_≡_};
-ghost use mathlib.Core.Bool.{false};
+ghost use mathlib.Core.Bool.{false, _||_};
 ghost use mathlib.Core.List.{[], _∷_};
 ghost use Prim.Native.Nat.{_*_, _<_, _≤_};
 ghost use lib.Dec.{eqb};
@@ -11,8 +11,8 @@ ghost use Rattle.strengths.specs.Blocks.{someRead};
 ghost use Rattle.strengths.specs.Inner.{InGrids, soughtAt, placesOf};
 ghost use Rattle.sizes.specs.Inner.{InPicture};
 ghost use Rattle.sizes.specs.Sizes.{badSize, outsideOf};
-ghost use Rattle.strengths.specs.Checks.{badByMacroblock, badLengths, badFlags, belowNone, disagree};
-ghost use Rattle.strengths.specs.Calls.{deriveChecks};
+ghost use Rattle.strengths.specs.Checks.{badByMacroblock, badLengths, oneTable, badFlags, belowNone, notPicture, badTable, disagree};
+ghost use Rattle.strengths.specs.Calls.{valueChecks, deriveChecks};
 use crate::walks::Sought;
 use crate::walks::beside_differ;
 use crate::walks::beside_have;
@@ -43,6 +43,13 @@ fn bad_lengths(
         | !(((ref1 == 0) & (mv1 == 0)) | ((ref1 == n) & (mv1 == 2 * n)))
 }
 
+// Check 5, of the tables: just one is empty, though list 1 is lent or it is list 0's.
+fn one_table(ref1: usize, pictures0: usize, pictures1: usize) -> bool
+    ensures { λ r. ⌜ r ≡ oneTable ref1 pictures0 pictures1 ⌝ }
+{
+    ((pictures0 == 0) & (pictures1 != 0)) | ((pictures0 != 0) & (pictures1 == 0) & (ref1 != 0))
+}
+
 // Checks 1, 2, 4 and 5, which read lengths alone.
 pub fn refuse_lengths(
     size: Size,
@@ -56,8 +63,10 @@ pub fn refuse_lengths(
     mv0: usize,
     ref1: usize,
     mv1: usize,
+    pictures0: usize,
+    pictures1: usize,
 ) -> u32
-    ensures { λ r. ⌜ r ≡ refusal ((1, badSize size) ∷ (2, outsideOf size x y) ∷ (4, badByMacroblock (size .w * size .h) strengths t8s) ∷ (5, badLengths (16 * (size .w * size .h)) inter nnz ref0 mv0 ref1 mv1) ∷ []) ⌝ }
+    ensures { λ r. ⌜ r ≡ refusal ((1, badSize size) ∷ (2, outsideOf size x y) ∷ (4, badByMacroblock (size .w * size .h) strengths t8s) ∷ (5, badLengths (16 * (size .w * size .h)) inter nnz ref0 mv0 ref1 mv1 || oneTable ref1 pictures0 pictures1) ∷ []) ⌝ }
 {
     if bad_size(size) {
         return 1;
@@ -71,7 +80,8 @@ pub fn refuse_lengths(
     if (strengths != 32 * n) | bad_flag_count(n, t8s) {
         return 4;
     }
-    if bad_lengths(16 * n, inter, nnz, ref0, mv0, ref1, mv1) {
+    let bad = bad_lengths(16 * n, inter, nnz, ref0, mv0, ref1, mv1);
+    if bad | one_table(ref1, pictures0, pictures1) {
         return 5;
     }
     0
@@ -113,6 +123,24 @@ fn bad_list(inter: &[u8], refs: &[i8], w: usize, x: usize, y: usize) -> bool
     false
 }
 
+// Check 22, of one entry of a table.
+fn not_picture(p: i32) -> bool
+    ensures { λ r. ⌜ r ≡ notPicture p ⌝ }
+{
+    (p < 0) | (65535 < p)
+}
+
+// .. of all.
+fn bad_table(pictures: &[i32]) -> bool
+    ensures { λ r. ⌜ r ≡ badTable (now (pictures .entry)) ⌝ }
+{
+    let mut found = false;
+    for i in 0..pictures.len() {
+        found = found | not_picture(pictures[i]);
+    }
+    found
+}
+
 // Check 11.
 pub fn disagreeing(inter: &[u8], w: usize, x: usize, y: usize) -> bool
     requires { ⌜ InGrids w x y (length (now inter)) ⌝ }
@@ -125,7 +153,47 @@ pub fn disagreeing(inter: &[u8], w: usize, x: usize, y: usize) -> bool
     own | left | above
 }
 
-// Checks 1 to 11. `strengths` is the length of the strengths grid.
+// Checks 7, 10, 22 and 11, which read values. None of them looks at counts or vectors.
+fn refuse_values(
+    size: Size,
+    x: usize,
+    y: usize,
+    t8s: &[u8],
+    inter: &[u8],
+    ref0: &[i8],
+    ref1: &[i8],
+    pictures0: &[i32],
+    pictures1: &[i32],
+) -> u32
+    requires { ⌜ (eqb (length (now t8s)) 0 ≡ false → InPicture (size .w) x y (length (now t8s))) ⌝ }
+    requires { ⌜ InGrids (size .w) x y (length (now inter)) ⌝ }
+    requires { ⌜ InGrids (size .w) x y (length (now ref0)) ⌝ }
+    requires { ⌜ (0 < length (now ref1) → InGrids (size .w) x y (length (now ref1))) ⌝ }
+    requires { ⌜ InGrids (size .w) x y 589824 ⌝ }
+    ensures { λ r. ⌜ r ≡ refusal (valueChecks size x y (now (t8s .entry)) (grids (now (inter .entry)) [] (now (ref0 .entry)) [] (now (ref1 .entry)) [] (now (pictures0 .entry)) (now (pictures1 .entry)))) ⌝ }
+{
+    let w = size.w;
+    let bad_inter = some_read(Sought::Above(1), inter, ref0, w, x, y);
+    if bad_inter | bad_flags(t8s, w, x, y) {
+        return 7;
+    }
+    let bad0 = bad_list(inter, ref0, w, x, y);
+    let bad1 = bad_list(inter, ref1, w, x, y);
+    if bad0 | bad1 {
+        return 10;
+    }
+    let table0 = bad_table(pictures0);
+    let table1 = bad_table(pictures1);
+    if table0 | table1 {
+        return 22;
+    }
+    if disagreeing(inter, w, x, y) {
+        return 11;
+    }
+    0
+}
+
+// Checks 1 to 11 and 22. `strengths` is the length of the strengths grid.
 pub fn refuse_derive<'a>(
     size: Size,
     x: usize,
@@ -138,8 +206,10 @@ pub fn refuse_derive<'a>(
     mv0: &'a [i16],
     ref1: &[i8],
     mv1: &'a [i16],
+    pictures0: &[i32],
+    pictures1: &[i32],
 ) -> u32
-    ensures { λ r. ⌜ r ≡ refusal (deriveChecks size x y (now (t8s .entry)) (grids (now (inter .entry)) (now (nnz .entry)) (now (ref0 .entry)) (now (mv0 .entry)) (now (ref1 .entry)) (now (mv1 .entry))) strengths) ⌝ }
+    ensures { λ r. ⌜ r ≡ refusal (deriveChecks size x y (now (t8s .entry)) (grids (now (inter .entry)) (now (nnz .entry)) (now (ref0 .entry)) (now (mv0 .entry)) (now (ref1 .entry)) (now (mv1 .entry)) (now (pictures0 .entry)) (now (pictures1 .entry))) strengths) ⌝ }
 {
     let n = refuse_lengths(
         size,
@@ -153,22 +223,11 @@ pub fn refuse_derive<'a>(
         mv0.len(),
         ref1.len(),
         mv1.len(),
+        pictures0.len(),
+        pictures1.len(),
     );
     if n != 0 {
         return n;
     }
-    let w = size.w;
-    let bad_inter = some_read(Sought::Above(1), inter, ref0, w, x, y);
-    if bad_inter | bad_flags(t8s, w, x, y) {
-        return 7;
-    }
-    let bad0 = bad_list(inter, ref0, w, x, y);
-    let bad1 = bad_list(inter, ref1, w, x, y);
-    if bad0 | bad1 {
-        return 10;
-    }
-    if disagreeing(inter, w, x, y) {
-        return 11;
-    }
-    0
+    refuse_values(size, x, y, t8s, inter, ref0, ref1, pictures0, pictures1)
 }

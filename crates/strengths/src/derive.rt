@@ -32,14 +32,16 @@ fn row_same<'a>(
     mv0: &'a [i16],
     ref1: &[i8],
     mv1: &'a [i16],
+    pictures0: &[i32],
+    pictures1: &[i32],
     at: usize,
 ) -> bool
     requires { ⌜ Hold (now inter) (now ref0) (now mv0) (now ref1) (now mv1) (at + 4) ⌝ }
-    ensures { λ r. ⌜ r ≡ every 4 (λ k. sameMotion (blockRead (now (inter .entry)) (now (ref0 .entry)) (now (mv0 .entry)) (now (ref1 .entry)) (now (mv1 .entry)) (at + k)) first) ⌝ }
+    ensures { λ r. ⌜ r ≡ every 4 (λ k. sameMotion (blockRead (now (inter .entry)) (now (ref0 .entry)) (now (mv0 .entry)) (now (ref1 .entry)) (now (mv1 .entry)) (now (pictures0 .entry)) (now (pictures1 .entry)) (at + k)) first) ⌝ }
 {
     let mut same = true;
     for k in 0..4usize {
-        let b = load(inter, ref0, mv0, ref1, mv1, at + k);
+        let b = load(inter, ref0, mv0, ref1, mv1, pictures0, pictures1, at + k);
         same = same & same_motion(b, first);
     }
     same
@@ -51,16 +53,29 @@ pub fn own_same<'a>(
     mv0: &'a [i16],
     ref1: &[i8],
     mv1: &'a [i16],
+    pictures0: &[i32],
+    pictures1: &[i32],
     at: usize,
     stride: usize,
 ) -> bool
     requires { ⌜ Hold (now inter) (now ref0) (now mv0) (now ref1) (now mv1) (at + 3 * stride + 4) ⌝ }
-    ensures { λ r. ⌜ r ≡ every 4 (λ j. every 4 (λ k. sameMotion (blockRead (now (inter .entry)) (now (ref0 .entry)) (now (mv0 .entry)) (now (ref1 .entry)) (now (mv1 .entry)) (at + j * stride + k)) (blockRead (now (inter .entry)) (now (ref0 .entry)) (now (mv0 .entry)) (now (ref1 .entry)) (now (mv1 .entry)) at))) ⌝ }
+    ensures { λ r. ⌜ r ≡ every 4 (λ j. every 4 (λ k. sameMotion (blockRead (now (inter .entry)) (now (ref0 .entry)) (now (mv0 .entry)) (now (ref1 .entry)) (now (mv1 .entry)) (now (pictures0 .entry)) (now (pictures1 .entry)) (at + j * stride + k)) (blockRead (now (inter .entry)) (now (ref0 .entry)) (now (mv0 .entry)) (now (ref1 .entry)) (now (mv1 .entry)) (now (pictures0 .entry)) (now (pictures1 .entry)) at))) ⌝ }
 {
-    let first = load(inter, ref0, mv0, ref1, mv1, at);
+    let first = load(inter, ref0, mv0, ref1, mv1, pictures0, pictures1, at);
     let mut same = true;
     for j in 0..4usize {
-        same = same & row_same(first, inter, ref0, mv0, ref1, mv1, at + j * stride);
+        same = same
+            & row_same(
+                first,
+                inter,
+                ref0,
+                mv0,
+                ref1,
+                mv1,
+                pictures0,
+                pictures1,
+                at + j * stride,
+            );
     }
     same
 }
@@ -171,13 +186,15 @@ fn strength_at<'a>(
     mv0: &'a [i16],
     ref1: &[i8],
     mv1: &'a [i16],
+    pictures0: &[i32],
+    pictures1: &[i32],
     k: usize,
 ) -> u8
     requires { ⌜ Hold (now inter) (now ref0) (now mv0) (now ref1) (now mv1) (ownBlock w x y 3 3 + 1) ⌝ }
     requires { ⌜ InGrids w x y (length (now nnz)) ⌝ }
     requires { ⌜ InGrids w x y 589824 ⌝ }
     requires { ⌜ k < 32 ⌝ }
-    ensures { λ r. ⌜ r ≡ strengthBy kind mode (grids (now (inter .entry)) (now (nnz .entry)) (now (ref0 .entry)) (now (mv0 .entry)) (now (ref1 .entry)) (now (mv1 .entry))) w t x y k ⌝ }
+    ensures { λ r. ⌜ r ≡ strengthBy kind mode (grids (now (inter .entry)) (now (nnz .entry)) (now (ref0 .entry)) (now (mv0 .entry)) (now (ref1 .entry)) (now (mv1 .entry)) (now (pictures0 .entry)) (now (pictures1 .entry))) w t x y k ⌝ }
 {
     if no_edge(t.own, x, y, k) {
         return 0;
@@ -186,8 +203,8 @@ fn strength_at<'a>(
     let q = q_block(at, w, k);
     let p = q - by_way(k, 1, 4 * w);
     let either = coded_beside(t, w, nnz, p, q, k);
-    let a = load(inter, ref0, mv0, ref1, mv1, p);
-    let b = load(inter, ref0, mv0, ref1, mv1, q);
+    let a = load(inter, ref0, mv0, ref1, mv1, pictures0, pictures1, p);
+    let b = load(inter, ref0, mv0, ref1, mv1, pictures0, pictures1, q);
     edge_strength(kind, mode, k / 4 % 4 == 0, k < 16, either, a, b)
 }
 
@@ -205,17 +222,35 @@ pub fn derive<'a>(
     mv0: &'a [i16],
     ref1: &[i8],
     mv1: &'a [i16],
+    pictures0: &[i32],
+    pictures1: &[i32],
     strengths: &mut [u8],
 )
     requires { ⌜ Hold (now inter) (now ref0) (now mv0) (now ref1) (now mv1) (ownBlock w x y 3 3 + 1) ⌝ }
     requires { ⌜ InGrids w x y (length (now nnz)) ⌝ }
     requires { ⌜ InGrids w x y 589824 ⌝ }
     requires { ⌜ 32 * (y * w + x) + 32 ≤ length (now strengths) ⌝ }
-    ensures { λ _. ⌜ now (strengths .exit) ≡ written (y * w + x) (strengthBy kind mode (grids (now (inter .entry)) (now (nnz .entry)) (now (ref0 .entry)) (now (mv0 .entry)) (now (ref1 .entry)) (now (mv1 .entry))) w t x y) (now (strengths .entry)) ⌝ }
+    ensures { λ _. ⌜ now (strengths .exit) ≡ written (y * w + x) (strengthBy kind mode (grids (now (inter .entry)) (now (nnz .entry)) (now (ref0 .entry)) (now (mv0 .entry)) (now (ref1 .entry)) (now (mv1 .entry)) (now (pictures0 .entry)) (now (pictures1 .entry))) w t x y) (now (strengths .entry)) ⌝ }
 {
     let i = 32 * (y * w + x);
     for k in 0..32usize {
-        let s = strength_at(kind, mode, t, w, x, y, inter, nnz, ref0, mv0, ref1, mv1, k);
+        let s = strength_at(
+            kind,
+            mode,
+            t,
+            w,
+            x,
+            y,
+            inter,
+            nnz,
+            ref0,
+            mv0,
+            ref1,
+            mv1,
+            pictures0,
+            pictures1,
+            k,
+        );
         strengths[i + k] = s;
     }
 }

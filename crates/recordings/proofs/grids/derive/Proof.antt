@@ -15,14 +15,14 @@ use Rattle.recordings.proofs.grids.derive.Statement.{statement}
 use Rattle.recordings.proofs.grids.derive.Tie as tie
 
 abbrev Inv : tie.InvT-loop
-Inv size field n inter nnz ref0 mv0 ref1 mv1 t8s s₀ done₀ i₀ s done i =
+Inv size field n inter nnz ref0 mv0 ref1 mv1 pictures0 pictures1 t8s s₀ done₀ i₀ s done i =
     (i ≤ n)
     × (length s ≡ length s₀)
-    × (done ≡ every i (servedAt size t8s (grids inter nnz ref0 mv0 ref1 mv1) (length s₀)))
-    × (s ≡ derivedTo size field (grids inter nnz ref0 mv0 ref1 mv1) t8s i s₀)
+    × (done ≡ every i (servedAt size t8s (grids inter nnz ref0 mv0 ref1 mv1 pictures0 pictures1) (length s₀)))
+    × (s ≡ derivedTo size field (grids inter nnz ref0 mv0 ref1 mv1 pictures0 pictures1) t8s i s₀)
 
 abbrev μ : tie.MeasureT-loop
-μ size field n inter nnz ref0 mv0 ref1 mv1 t8s s₀ done₀ i₀ s done i = n - i
+μ size field n inter nnz ref0 mv0 ref1 mv1 pictures0 pictures1 t8s s₀ done₀ i₀ s done i = n - i
 
 loop-again : tie.Need-loop-again Inv μ
 loop-again c =
@@ -32,7 +32,7 @@ loop-again c =
     let test = k .before in
     let l = test .before in
     let a = l .before .before .before .before .before .args in
-    let g = grids (a .inter .now) (a .nnz .now) (a .ref0 .now) (a .mv0 .now) (a .ref1 .now) (a .mv1 .now) in
+    let g = grids (a .inter .now) (a .nnz .now) (a .ref0 .now) (a .mv0 .now) (a .ref1 .now) (a .mv1 .now) (a .pictures0 .now) (a .pictures1 .now) in
     let i = l .loop .inv in
     let t = turn (a .size) (a .field) g (a .t8s .now) (l .loop .i) (length (a .s .now)) (i .1) (k .column .ensures) (r .row .ensures) (q .derive-mb .ensures) in (
       omega (arith, test .loop-test .taken),

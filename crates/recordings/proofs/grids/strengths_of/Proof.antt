@@ -14,7 +14,7 @@ returns-2 : tie.Need-returns-2
 returns-2 c =
     let q = c .before .before .before .before .before .before .before .before in
     let t = q .before .before .before .before .before .before .before .before .before .before .before .before .before .before .before .before in
-    record { too-large = λ h. absurd (omega (arith, t .if1 .left)); derived = λ h. (_, q .read-and-derive .ensures) }
+    record { too-large = λ h. absurd (omega (arith, t .if1 .left)); derived = λ h. (_, refl, refl, q .read-and-derive .ensures) }
 
 pub strengths-of-spec : {M : Type 1} → statement M
 strengths-of-spec =

@@ -16,7 +16,7 @@ use Rattle.strengths.proofs.calls.derive_known.Statement.{statement}
 use Rattle.strengths.proofs.calls.derive_known.Tie as tie
 
 abbrev given : tie.Start → Grids
-given c = let a = c .args in grids (a .inter .now) (a .nnz .now) (a .ref0 .now) (a .mv0 .now) (a .ref1 .now) (a .mv1 .now)
+given c = let a = c .args in grids (a .inter .now) (a .nnz .now) (a .ref0 .now) (a .mv0 .now) (a .ref1 .now) (a .mv1 .now) (a .pictures0 .now) (a .pictures1 .now)
 
 -- where the call goes on after checks 1 to 11
 abbrev start : tie.Else1 → tie.Start

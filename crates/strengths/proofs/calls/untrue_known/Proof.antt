@@ -11,7 +11,7 @@ use Rattle.strengths.proofs.calls.untrue_known.Statement.{statement}
 use Rattle.strengths.proofs.calls.untrue_known.Tie as tie
 
 abbrev given : tie.Start → Grids
-given c = let a = c .args in grids (a .inter .now) (a .nnz .now) (a .ref0 .now) (a .mv0 .now) (a .ref1 .now) (a .mv1 .now)
+given c = let a = c .args in grids (a .inter .now) (a .nnz .now) (a .ref0 .now) (a .mv0 .now) (a .ref1 .now) (a .mv1 .now) (a .pictures0 .now) (a .pictures1 .now)
 
 returns : tie.Need-returns
 returns c =

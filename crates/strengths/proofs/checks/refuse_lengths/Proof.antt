@@ -7,7 +7,7 @@ use native.Mathlib.Omega.{arith}
 use lib.Dec.{eqb}
 use Rattle.sizes.specs.Sizes.{badSize}
 use Rattle.sizes.proofs.Sized.{Sized, sized}
-use Rattle.strengths.specs.Checks.{badByMacroblock}
+use Rattle.strengths.specs.Checks.{badByMacroblock, badLengths, oneTable}
 use Rattle.strengths.proofs.checks.refuse_lengths.Statement.{statement}
 use Rattle.strengths.proofs.checks.refuse_lengths.Tie as tie
 
@@ -27,17 +27,25 @@ returns-3 c =
     let f = c .before in
     simp (ok (f .before .before), f .before .if2 .left, sym (by-mb f) ∙ c .if3 .taken)
 
+-- .. and check 5
+blocks : (c : tie.After-one-table) → let a = c .before .before .before .before .before .before .before .args in let n = 16 * (a .size .w * a .size .h) in
+    (c .before .bad-lengths .result || c .one-table .result)
+    ≡ (badLengths n (a .inter) (a .nnz) (a .ref0) (a .mv0) (a .ref1) (a .mv1) || oneTable (a .ref1) (a .pictures0) (a .pictures1))
+blocks c = λ i. c .before .bad-lengths .ensures i || c .one-table .ensures i
+
 returns-4 : tie.Need-returns-4
 returns-4 c =
-    let e = c .before .before in
+    let t = c .before in
+    let e = t .before .before in
     let f = e .before in
-    simp (ok (f .before .before), f .before .if2 .left, sym (by-mb f) ∙ e .if3 .left, sym (c .before .bad-lengths .ensures) ∙ c .if4 .taken)
+    simp (ok (f .before .before), f .before .if2 .left, sym (by-mb f) ∙ e .if3 .left, sym (blocks t) ∙ c .if4 .taken)
 
 returns-5 : tie.Need-returns-5
 returns-5 c =
-    let e = c .before .before in
+    let t = c .before in
+    let e = t .before .before in
     let f = e .before in
-    simp (ok (f .before .before), f .before .if2 .left, sym (by-mb f) ∙ e .if3 .left, sym (c .before .bad-lengths .ensures) ∙ c .if4 .left)
+    simp (ok (f .before .before), f .before .if2 .left, sym (by-mb f) ∙ e .if3 .left, sym (blocks t) ∙ c .if4 .left)
 
 pub refuse-lengths-spec : {M : Type 1} → statement M
 refuse-lengths-spec =
@@ -52,5 +60,6 @@ refuse-lengths-spec =
     returns-3
     (λ c. record { fits = omega (arith, small (c .before .before .before)) })
     (λ c κs. omega (arith, small (c .before .before .before)))
+    (λ c κs. search needs)
     returns-4
     returns-5)

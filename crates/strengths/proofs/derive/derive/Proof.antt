@@ -14,13 +14,13 @@ use Rattle.strengths.proofs.derive.derive.Statement.{statement}
 use Rattle.strengths.proofs.derive.derive.Tie as tie
 
 abbrev Inv : tie.InvT-loop
-Inv kind mode t w x y inter nnz ref0 mv0 ref1 mv1 strengths₀ i k₀ strengths k =
+Inv kind mode t w x y inter nnz ref0 mv0 ref1 mv1 pictures0 pictures1 strengths₀ i k₀ strengths k =
     (k ≤ 32)
     × (length strengths ≡ length strengths₀)
-    × (strengths ≡ upTo k (λ (n : ℕ) (s : List ℕ). set s (32 * (y * w + x) + n) (strengthBy kind mode (grids inter nnz ref0 mv0 ref1 mv1) w t x y n)) strengths₀)
+    × (strengths ≡ upTo k (λ (n : ℕ) (s : List ℕ). set s (32 * (y * w + x) + n) (strengthBy kind mode (grids inter nnz ref0 mv0 ref1 mv1 pictures0 pictures1) w t x y n)) strengths₀)
 
 abbrev μ : tie.MeasureT-loop
-μ kind mode t w x y inter nnz ref0 mv0 ref1 mv1 strengths₀ i k₀ strengths k = 32 - k
+μ kind mode t w x y inter nnz ref0 mv0 ref1 mv1 pictures0 pictures1 strengths₀ i k₀ strengths k = 32 - k
 
 again : tie.Need-loop-again Inv μ
 again c =

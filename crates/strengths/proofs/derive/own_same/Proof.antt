@@ -12,11 +12,11 @@ use Rattle.strengths.proofs.derive.own_same.Statement.{statement}
 use Rattle.strengths.proofs.derive.own_same.Tie as tie
 
 abbrev Inv : tie.InvT-loop
-Inv inter ref0 mv0 ref1 mv1 at stride first same₀ j₀ same j =
-    (j ≤ 4) × (same ≡ every j (λ i. every 4 (λ k. sameMotion (blockRead inter ref0 mv0 ref1 mv1 (at + i * stride + k)) first)))
+Inv inter ref0 mv0 ref1 mv1 pictures0 pictures1 at stride first same₀ j₀ same j =
+    (j ≤ 4) × (same ≡ every j (λ i. every 4 (λ k. sameMotion (blockRead inter ref0 mv0 ref1 mv1 pictures0 pictures1 (at + i * stride + k)) first)))
 
 abbrev μ : tie.MeasureT-loop
-μ inter ref0 mv0 ref1 mv1 at stride first same₀ j₀ same j = 4 - j
+μ inter ref0 mv0 ref1 mv1 pictures0 pictures1 at stride first same₀ j₀ same j = 4 - j
 
 -- the rows walked lie before the last
 bound : (c : tie.In-loop Inv μ) → let a = c .before .before .before .before .args in c .before .loop .j * a .stride ≤ 3 * a .stride

@@ -11,11 +11,11 @@ use Rattle.strengths.proofs.derive.row_same.Statement.{statement}
 use Rattle.strengths.proofs.derive.row_same.Tie as tie
 
 abbrev Inv : tie.InvT-loop
-Inv first inter ref0 mv0 ref1 mv1 at same₀ k₀ same k =
-    (k ≤ 4) × (same ≡ every k (λ i. sameMotion (blockRead inter ref0 mv0 ref1 mv1 (at + i)) first))
+Inv first inter ref0 mv0 ref1 mv1 pictures0 pictures1 at same₀ k₀ same k =
+    (k ≤ 4) × (same ≡ every k (λ i. sameMotion (blockRead inter ref0 mv0 ref1 mv1 pictures0 pictures1 (at + i)) first))
 
 abbrev μ : tie.MeasureT-loop
-μ first inter ref0 mv0 ref1 mv1 at same₀ k₀ same k = 4 - k
+μ first inter ref0 mv0 ref1 mv1 pictures0 pictures1 at same₀ k₀ same k = 4 - k
 
 again : tie.Need-loop-again Inv μ
 again c = let l = c .before .before .before in (omega arith, every-more _ _ (l .loop .inv .1) (rw (c .same-motion .ensures, c .before .load .ensures)))

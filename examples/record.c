@@ -1,5 +1,6 @@
-/* record FILE QP [V_MINUS_U]: writes a recording (crates/recordings/FORMAT.md) from a station's buffers, with
- * this QP in every macroblock. The offsets are 0, but V's chroma offset is V_MINUS_U if that is given.
+/* record FILE QP [V_MINUS_U [PICTURE]]: writes a recording (crates/recordings/FORMAT.md) from a station's
+ * buffers, with this QP in every macroblock. The offsets are 0, but V's chroma offset is V_MINUS_U if that is
+ * given. If PICTURE is given, list 0 has a table: index 0 names this picture, index 1 the next.
  * `target/host/release/deblock replay FILE` replays it. */
 #include <stdio.h>
 #include <stdlib.h>
@@ -26,6 +27,13 @@ static void put_grid(FILE *file, const void *grid, size_t len)
         fwrite(grid, 1, len, file);
 }
 
+static void put_table(FILE *file, const int32_t *pictures, size_t len)
+{
+    put(file, len, 2);
+    for (size_t i = 0; i < len; i++)
+        put(file, (unsigned long)pictures[i], 2);
+}
+
 /* Writes the header and all planes. `before` is Y, U and V as they were before p was filtered. */
 static void put_planes(FILE *file, const uint8_t *before, const struct deblock_picture *p, int flags)
 {
@@ -44,10 +52,17 @@ static void put_planes(FILE *file, const uint8_t *before, const struct deblock_p
     fwrite(p->v, 1, p->v_len, file);
 }
 
+/* List 0 has a table wherever list 1 has one. */
+static int has_tables(const struct deblock_grids *g)
+{
+    return g->pictures0_len > 0;
+}
+
 /* 16 only informs here: where the chroma offsets differ, a reader expects grids with it and without it. */
 static int flags_of(const struct deblock_picture *p, const struct deblock_grids *g)
 {
-    return (g->ref1_len > 0 ? 1 : 0) | (p->t8s_len > 0 ? 2 : 0) | (p->offset_v_minus_u != 0 ? 16 : 0);
+    return (g->ref1_len > 0 ? 1 : 0) | (p->t8s_len > 0 ? 2 : 0) | (has_tables(g) ? 8 : 0) |
+           (p->offset_v_minus_u != 0 ? 16 : 0);
 }
 
 static void record(FILE *file, const uint8_t *before, const struct deblock_picture *p,
@@ -56,6 +71,10 @@ static void record(FILE *file, const uint8_t *before, const struct deblock_pictu
     put_planes(file, before, p, flags_of(p, g));
     put(file, (unsigned long)p->offset_a, 1);
     put(file, (unsigned long)p->offset_b, 1);
+    if (has_tables(g)) {
+        put_table(file, g->pictures0, g->pictures0_len);
+        put_table(file, g->pictures1, g->pictures1_len);
+    }
     put_grid(file, p->qps, p->qps_len);
     put_grid(file, p->t8s, p->t8s_len);
     put_grid(file, g->inter, g->inter_len);
@@ -84,14 +103,20 @@ static int trouble(const char *what)
 
 int main(int argc, char **argv)
 {
-    if (argc != 3 && argc != 4)
-        return trouble("the arguments are FILE, QP and, if you like, V_MINUS_U");
+    if (argc < 3 || argc > 5)
+        return trouble("the arguments are FILE, QP and, if you like, V_MINUS_U and PICTURE");
     decode();
     memset(qps, atoi(argv[2]), sizeof qps);
     struct deblock_picture p = lend_picture();
     struct deblock_grids g = lend_grids();
-    if (argc == 4)
+    if (argc > 3)
         p.offset_v_minus_u = atoi(argv[3]);
+    int32_t picture = argc > 4 ? atoi(argv[4]) : 0;
+    int32_t pictures[] = { picture, picture + 1 };
+    if (argc > 4) {
+        g.pictures0 = pictures;
+        g.pictures0_len = 2;
+    }
     uint8_t before[sizeof planes];
     memcpy(before, planes, sizeof planes);
     uint32_t answer = filter(&p, &g);

@@ -15,8 +15,8 @@
  *   - each pointer is valid for the number of elements that follows it, to read, and to write where the
  *     pointer is not const;
  *   - no buffer that a call writes overlaps any other buffer of that call;
- *   - no pointer is null, even where the length is 0 (in the structs it may be), and int16_t pointers are
- *     aligned;
+ *   - no pointer is null, even where the length is 0 (in the structs it may be), and int16_t and int32_t
+ *     pointers are aligned;
  *   - nothing else writes the memory lent, or reads what the call writes, until the call returns.
  * A length is a number of elements, not of bytes; it stands right after its pointer.
  *
@@ -43,6 +43,8 @@
  *                                coefficients; reference, -1 where unused, as in intra blocks
  *   mv0                 32 * n   per 4x4 block its vector's x, then y
  *   ref1, mv1           16 * n and 32 * n, or both 0: list 1
+ *   pictures0, pictures1   any   tables: per index of a list its picture's number, 0 to 65535; both 0 means
+ *                                that references are compared as stored
  * The offsets are each -12 to 12. a and b are FilterOffsetA and FilterOffsetB, chroma_u is
  * chroma_qp_index_offset, and chroma_v is second_chroma_qp_index_offset, or chroma_u where a stream has none.
  *
@@ -64,13 +66,13 @@
 #include <stdint.h>
 
 #define DEBLOCK_VERSION_MAJOR 0
-#define DEBLOCK_VERSION_MINOR 7
+#define DEBLOCK_VERSION_MINOR 8
 #define DEBLOCK_VERSION_PATCH 0
-#define DEBLOCK_VERSION "0.7.0"
+#define DEBLOCK_VERSION "0.8.0"
 
 /* What a call answers. Checks are made in the order of this list, each call making those whose data it takes;
- * the first that applies is the answer. The numbers are not in that order: 19 is asked between 2 and 3. The
- * calls of streams have orders of their own, which are said with them. */
+ * the first that applies is the answer. The numbers are not in that order: 19 is asked between 2 and 3, 22
+ * between 10 and 11. The calls of streams have orders of their own, which are said with them. */
 enum deblock_answer {
     DEBLOCK_DONE = 0,
     DEBLOCK_BAD_SIZE = 1,               /* w, h or their product is outside its range */
@@ -78,12 +80,14 @@ enum deblock_answer {
     DEBLOCK_BAD_PARITY = 19,            /* the part is none of enum deblock_part */
     DEBLOCK_PLANE_LENGTH = 3,           /* a plane has the wrong length */
     DEBLOCK_MACROBLOCK_GRID_LENGTH = 4, /* strengths, qps, t8s or marks have the wrong length */
-    DEBLOCK_BLOCK_GRID_LENGTH = 5,      /* a 4x4 grid has the wrong length, or just one of list 1 is empty */
+    DEBLOCK_BLOCK_GRID_LENGTH = 5,      /* a 4x4 grid has the wrong length, just one of list 1 is empty, or
+                                           just one table is, unless it is list 1's and list 1 is not lent */
     DEBLOCK_BAD_OFFSET = 6,             /* one of the four offsets is outside -12..12 */
     DEBLOCK_NOT_A_BOOL = 7,             /* an inter byte, 8x8 flag or mark that is read is above 1 */
     DEBLOCK_BAD_QP = 8,                 /* a QP that is read is above 51 */
     DEBLOCK_BAD_STRENGTH = 9,           /* a strength that is read is above 4 */
     DEBLOCK_BAD_REFERENCE = 10,         /* a reference that is read is below -1 */
+    DEBLOCK_BAD_PICTURE_NUMBER = 22,    /* an entry of a table, used or not, is outside 0 to 65535 */
     DEBLOCK_MIXED_INTER = 11,           /* the 16 blocks, the 4 to the left or the 4 above differ in inter */
     DEBLOCK_UNTRUE = 12,                /* the kind, or a flag that is set, is not true of the grids */
     DEBLOCK_MARKED_ALREADY = 13,        /* the macroblock is marked */
@@ -103,7 +107,7 @@ static inline const char *deblock_answer_text(uint32_t answer)
         "the macroblock is outside the picture, or the rows are not first <= last <= h",
         "luma, U or V has the wrong length",
         "strengths, QPs, 8x8 flags or marks have the wrong length",
-        "a 4x4 grid has the wrong length, or just one list 1 grid is empty",
+        "a 4x4 grid has the wrong length, or just one list 1 grid or reference table is empty",
         "an offset is not within -12 to 12",
         "an inter byte, 8x8 flag or mark is not 0 or 1",
         "a QP is above 51",
@@ -118,8 +122,12 @@ static inline const char *deblock_answer_text(uint32_t answer)
         "a side of the stream's picture is no multiple of 16, or its size is out of range",
         "the stream is cut short, or is not just as long as what is to be written",
         "the part is not a frame, a top field or a bottom field",
+        NULL,
+        NULL,
+        "an entry of a reference table is outside 0 to 65535",
     };
-    return answer < sizeof texts / sizeof *texts ? texts[answer] : "no answer of this version";
+    const char *text = answer < sizeof texts / sizeof *texts ? texts[answer] : NULL;
+    return text ? text : "no answer of this version";
 }
 
 /* What part of a frame the picture is. */
@@ -221,35 +229,47 @@ struct deblock_finals deblock_made_final(size_t w, size_t h, size_t x, size_t y,
  * blocks of an 8x8 block counts for all four, on both sides of an edge. So a decoder may write the four
  * counts of CAVLC as they are, or the 8x8 block's own count to any or all of its four blocks.
  *
+ * Where a list's table is not empty, a reference of that list is an index into it and names the picture whose
+ * number stands there; -1 and an index past the table name none. Two blocks are then compared by what their
+ * references name: for a strength whichever list names it, for flat and uniform list by list. A call reads
+ * every entry of both tables, and one table a list serves the whole picture: where slices have lists of their
+ * own, store pictures' numbers in ref0 and ref1 and lend no tables (docs/GUIDE.md, "Reference lists").
+ *
  * Where it answers 0 a call with true flags or with a true kind writes what deblock_strengths writes. field
  * other than 0 means that the picture is a field: vectors are then far from a vertical difference of 2
  * quarter samples on, not of 4, and the upper edge of or under an intra macroblock gets 3, not 4. */
 
 /* Strengths of a macroblock of which nothing is known but its transform.
- * Writes strengths. Answers 0, 1, 2, 4, 5, 7, 10, 11. */
+ * Writes strengths. Answers 0, 1, 2, 4, 5, 7, 10, 22, 11. */
 uint32_t deblock_strengths(size_t w, size_t h, uint8_t field, size_t x, size_t y,
                            const uint8_t *t8s, size_t t8s_len,
                            const uint8_t *inter, size_t inter_len, const uint8_t *nnz, size_t nnz_len,
                            const int8_t *ref0, size_t ref0_len, const int16_t *mv0, size_t mv0_len,
                            const int8_t *ref1, size_t ref1_len, const int16_t *mv1, size_t mv1_len,
+                           const int32_t *pictures0, size_t pictures0_len,
+                           const int32_t *pictures1, size_t pictures1_len,
                            uint8_t *strengths, size_t strengths_len);
 
 /* The same with flags, each set by any number but 0. They may be left unset where they are true.
- * Writes strengths. Answers 0, 1, 2, 4, 5, 7, 10, 11, 12. */
+ * Writes strengths. Answers 0, 1, 2, 4, 5, 7, 10, 22, 11, 12. */
 uint32_t deblock_strengths_flags(size_t w, size_t h, uint8_t field, size_t x, size_t y,
                                  uint8_t flat, uint8_t uniform, const uint8_t *t8s, size_t t8s_len,
                                  const uint8_t *inter, size_t inter_len, const uint8_t *nnz, size_t nnz_len,
                                  const int8_t *ref0, size_t ref0_len, const int16_t *mv0, size_t mv0_len,
                                  const int8_t *ref1, size_t ref1_len, const int16_t *mv1, size_t mv1_len,
+                                 const int32_t *pictures0, size_t pictures0_len,
+                                 const int32_t *pictures1, size_t pictures1_len,
                                  uint8_t *strengths, size_t strengths_len);
 
 /* The same with a kind, a number of enum deblock_kind. Any other number is a kind that is true of no grids.
- * Writes strengths. Answers 0, 1, 2, 4, 5, 7, 10, 11, 12. */
+ * Writes strengths. Answers 0, 1, 2, 4, 5, 7, 10, 22, 11, 12. */
 uint32_t deblock_strengths_kind(size_t w, size_t h, uint8_t field, size_t x, size_t y, uint8_t kind,
                                 const uint8_t *t8s, size_t t8s_len,
                                 const uint8_t *inter, size_t inter_len, const uint8_t *nnz, size_t nnz_len,
                                 const int8_t *ref0, size_t ref0_len, const int16_t *mv0, size_t mv0_len,
                                 const int8_t *ref1, size_t ref1_len, const int16_t *mv1, size_t mv1_len,
+                                const int32_t *pictures0, size_t pictures0_len,
+                                const int32_t *pictures1, size_t pictures1_len,
                                 uint8_t *strengths, size_t strengths_len);
 
 /* The four calls of streams. The header line is YUV4MPEG2 and then tags, the other line FRAME and then tags
@@ -294,7 +314,8 @@ uint32_t deblock_y4m_write(size_t w, size_t h, const uint8_t *luma, size_t luma_
  * answer are is.
  *
  * A null pointer of length 0 means not lent. A null pointer with another length counts as a wrong length,
- * also where length 0 would do: a call that takes it answers 3, 4 or 5, unless an earlier check applies. */
+ * also where length 0 or any length would do: a call that takes it answers 3, 4 or 5, unless an earlier check
+ * applies. */
 #ifdef __cplusplus
 #define DEBLOCK_NONE {}
 #else
@@ -317,7 +338,7 @@ struct deblock_picture {
     uint8_t *marks; size_t marks_len; /* visits write them, and they tell what is final */
 };
 
-/* The 4x4 grids, for strength calls alone. */
+/* The 4x4 grids and a table for each list, for strength calls alone. */
 struct deblock_grids {
     const uint8_t *inter; size_t inter_len;
     const uint8_t *nnz; size_t nnz_len;
@@ -325,6 +346,8 @@ struct deblock_grids {
     const int16_t *mv0; size_t mv0_len;
     const int8_t *ref1; size_t ref1_len;
     const int16_t *mv1; size_t mv1_len;
+    const int32_t *pictures0; size_t pictures0_len;
+    const int32_t *pictures1; size_t pictures1_len;
 };
 
 /* For the functions below: a picture as a flat call may be lent it. Where a pointer is null it gets a byte
@@ -344,20 +367,24 @@ static inline struct deblock_picture deblock_picture_lent(struct deblock_picture
     return p;
 }
 
-/* The same for grids. One of list 1 without a pointer but with a length must be refused with 5, so the inter
- * bytes go with it. */
+/* The same for grids. One of list 1, or a table, without a pointer but with a length must be refused with 5,
+ * so the inter bytes go with it. */
 static inline struct deblock_grids deblock_grids_lent(struct deblock_grids g)
 {
     static const uint8_t no_bytes[1] = {0};
     static const int8_t no_references[1] = {0};
     static const int16_t no_motion[1] = {0};
+    static const int32_t no_pictures[1] = {0};
     if ((!g.ref1 && g.ref1_len) || (!g.mv1 && g.mv1_len)) { g.inter = NULL; }
+    if ((!g.pictures0 && g.pictures0_len) || (!g.pictures1 && g.pictures1_len)) { g.inter = NULL; }
     if (!g.inter) { g.inter = no_bytes; g.inter_len = 0; }
     if (!g.nnz) { g.nnz = no_bytes; g.nnz_len = 0; }
     if (!g.ref0) { g.ref0 = no_references; g.ref0_len = 0; }
     if (!g.mv0) { g.mv0 = no_motion; g.mv0_len = 0; }
     if (!g.ref1) { g.ref1 = no_references; g.ref1_len = 0; }
     if (!g.mv1) { g.mv1 = no_motion; g.mv1_len = 0; }
+    if (!g.pictures0) { g.pictures0 = no_pictures; g.pictures0_len = 0; }
+    if (!g.pictures1) { g.pictures1 = no_pictures; g.pictures1_len = 0; }
     return g;
 }
 
@@ -420,7 +447,9 @@ static inline uint32_t deblock_picture_strengths(const struct deblock_picture *p
     const struct deblock_grids g = deblock_grids_lent(*grids);
     return deblock_strengths(p.w, p.h, p.part != DEBLOCK_FRAME, x, y, p.t8s, p.t8s_len,
                              g.inter, g.inter_len, g.nnz, g.nnz_len, g.ref0, g.ref0_len, g.mv0, g.mv0_len,
-                             g.ref1, g.ref1_len, g.mv1, g.mv1_len, p.strengths, p.strengths_len);
+                             g.ref1, g.ref1_len, g.mv1, g.mv1_len,
+                             g.pictures0, g.pictures0_len, g.pictures1, g.pictures1_len,
+                             p.strengths, p.strengths_len);
 }
 
 /* flags: any of enum deblock_flag joined by |, or 0; other bits are not read. */
@@ -434,6 +463,7 @@ static inline uint32_t deblock_picture_strengths_flags(const struct deblock_pict
                                    (flags & DEBLOCK_UNIFORM) != 0, p.t8s, p.t8s_len,
                                    g.inter, g.inter_len, g.nnz, g.nnz_len, g.ref0, g.ref0_len,
                                    g.mv0, g.mv0_len, g.ref1, g.ref1_len, g.mv1, g.mv1_len,
+                                   g.pictures0, g.pictures0_len, g.pictures1, g.pictures1_len,
                                    p.strengths, p.strengths_len);
 }
 
@@ -446,6 +476,7 @@ static inline uint32_t deblock_picture_strengths_kind(const struct deblock_pictu
     return deblock_strengths_kind(p.w, p.h, p.part != DEBLOCK_FRAME, x, y, kind, p.t8s, p.t8s_len,
                                   g.inter, g.inter_len, g.nnz, g.nnz_len, g.ref0, g.ref0_len,
                                   g.mv0, g.mv0_len, g.ref1, g.ref1_len, g.mv1, g.mv1_len,
+                                  g.pictures0, g.pictures0_len, g.pictures1, g.pictures1_len,
                                   p.strengths, p.strengths_len);
 }
 

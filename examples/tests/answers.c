@@ -84,6 +84,7 @@ static void all_offsets(void)
 
 static void deriving(void)
 {
+    static const int32_t pictures0[] = {65536};
     const struct deblock_picture p = lend_picture();
     struct deblock_grids g = lend_grids();
     decode();
@@ -92,6 +93,9 @@ static void deriving(void)
     expect("kind 4", DEBLOCK_UNTRUE, deblock_picture_strengths_kind(&p, &g, 0, 0, 4));
     inter[0] = 0;
     expect("mixed", DEBLOCK_MIXED_INTER, deblock_picture_strengths(&p, &g, 0, 0));
+    g.pictures0 = pictures0;
+    g.pictures0_len = 1;
+    expect("picture 65536", DEBLOCK_BAD_PICTURE_NUMBER, deblock_picture_strengths(&p, &g, 0, 0));
     ref0[0] = -2;
     expect("reference -2", DEBLOCK_BAD_REFERENCE, deblock_picture_strengths(&p, &g, 0, 0));
     inter[0] = 2;
@@ -152,12 +156,13 @@ static void parts(void)
     filter_part(DEBLOCK_BOTTOM_FIELD, 100, 101);
 }
 
-/* Prints the texts. All numbers that are none have the same. */
+/* Prints the texts, in the order of the numbers. All numbers that are none have the same. */
 static void texts(void)
 {
-    static const uint32_t none[] = {21, 255, UINT32_MAX};
+    static const uint32_t none[] = {21, DEBLOCK_BAD_PICTURE_NUMBER + 1, 255, UINT32_MAX};
     for (uint32_t answer = DEBLOCK_DONE; answer <= DEBLOCK_BAD_PARITY; answer++)
         printf("%s\n", deblock_answer_text(answer));
+    printf("%s\n", deblock_answer_text(DEBLOCK_BAD_PICTURE_NUMBER));
     printf("%s\n", deblock_answer_text(DEBLOCK_BAD_PARITY + 1));
     for (size_t i = 0; i < sizeof none / sizeof *none; i++)
         expect("a text", 0, strcmp(deblock_answer_text(none[i]), deblock_answer_text(20)) != 0);

@@ -3,7 +3,7 @@
 #include "test.h"
 
 /* Members that are pointers point into this, at their numbers. */
-static int16_t room[64];
+static int32_t room[64];
 
 /* A pointer's number. A pointer to elsewhere has 0, null has 99. */
 static size_t at(const void *pointer)
@@ -15,7 +15,7 @@ static size_t at(const void *pointer)
 }
 
 /* What the last call was handed. */
-enum { MOST = 24 };
+enum { MOST = 28 };
 static size_t handed[MOST];
 
 static uint32_t keep(const size_t *arguments, size_t bytes, uint32_t answer)
@@ -44,9 +44,11 @@ static uint32_t keep(const size_t *arguments, size_t bytes, uint32_t answer)
 #define DERIVING \
     const uint8_t *t, size_t tl, const uint8_t *i, size_t il, const uint8_t *n, size_t nl, \
     const int8_t *r0, size_t r0l, const int16_t *m0, size_t m0l, \
-    const int8_t *r1, size_t r1l, const int16_t *m1, size_t m1l, uint8_t *s, size_t sl
+    const int8_t *r1, size_t r1l, const int16_t *m1, size_t m1l, \
+    const int32_t *p0, size_t p0l, const int32_t *p1, size_t p1l, uint8_t *s, size_t sl
 #define DERIVING_KEPT \
-    at(t), tl, at(i), il, at(n), nl, at(r0), r0l, at(m0), m0l, at(r1), r1l, at(m1), m1l, at(s), sl
+    at(t), tl, at(i), il, at(n), nl, at(r0), r0l, at(m0), m0l, at(r1), r1l, at(m1), m1l, \
+    at(p0), p0l, at(p1), p1l, at(s), sl
 
 uint32_t deblock_whole(size_t w, size_t h, uint8_t part, FILTERING)
 KEEP(101, w, h, part, FILTERING_KEPT)
@@ -106,6 +108,7 @@ static struct deblock_grids numbered_grid_lengths(void)
 {
     struct deblock_grids g = DEBLOCK_NONE;
     g.inter_len = 21, g.nnz_len = 22, g.ref0_len = 23, g.mv0_len = 24, g.ref1_len = 25, g.mv1_len = 26;
+    g.pictures0_len = 27, g.pictures1_len = 28;
     return g;
 }
 
@@ -115,11 +118,16 @@ static struct deblock_grids numbered_grids(void)
     g.inter = (uint8_t *)(room + 41);
     g.nnz = (uint8_t *)(room + 42);
     g.ref0 = (int8_t *)(room + 43);
-    g.mv0 = room + 44;
+    g.mv0 = (int16_t *)(room + 44);
     g.ref1 = (int8_t *)(room + 45);
-    g.mv1 = room + 46;
+    g.mv1 = (int16_t *)(room + 46);
+    g.pictures0 = room + 47;
+    g.pictures1 = room + 48;
     return g;
 }
+
+/* The numbers of the members from t8s to strengths, as strength calls are handed them. */
+#define DERIVED_FROM 36, 16, 41, 21, 42, 22, 43, 23, 44, 24, 45, 25, 46, 26, 47, 27, 48, 28, 34, 14
 
 static void all_lent(void)
 {
@@ -133,16 +141,14 @@ static void all_lent(void)
            1, 2, 6, 8, 9, 4, 5, 7, 10, 31, 11, 32, 12, 33, 13, 34, 14, 35, 15, 36, 16, 37, 17);
     EXPECT("is final", 107, deblock_picture_is_final(&p, 8, 9).answer, 1, 2, 8, 9, 37, 17);
     EXPECT("made final", 108, deblock_picture_made_final(&p, 8, 9).answer, 1, 2, 8, 9, 37, 17);
-    EXPECT("strengths", 104, deblock_picture_strengths(&p, &g, 8, 9),
-           1, 2, 1, 8, 9, 36, 16, 41, 21, 42, 22, 43, 23, 44, 24, 45, 25, 46, 26, 34, 14);
-    EXPECT("kind", 106, deblock_picture_strengths_kind(&p, &g, 8, 9, 18),
-           1, 2, 1, 8, 9, 18, 36, 16, 41, 21, 42, 22, 43, 23, 44, 24, 45, 25, 46, 26, 34, 14);
+    EXPECT("strengths", 104, deblock_picture_strengths(&p, &g, 8, 9), 1, 2, 1, 8, 9, DERIVED_FROM);
+    EXPECT("kind", 106, deblock_picture_strengths_kind(&p, &g, 8, 9, 18), 1, 2, 1, 8, 9, 18, DERIVED_FROM);
     EXPECT("flat", 105, deblock_picture_strengths_flags(&p, &g, 8, 9, DEBLOCK_FLAT),
-           1, 2, 1, 8, 9, 1, 0, 36, 16, 41, 21, 42, 22, 43, 23, 44, 24, 45, 25, 46, 26, 34, 14);
+           1, 2, 1, 8, 9, 1, 0, DERIVED_FROM);
     EXPECT("uniform", 105, deblock_picture_strengths_flags(&p, &g, 8, 9, DEBLOCK_UNIFORM),
-           1, 2, 1, 8, 9, 0, 1, 36, 16, 41, 21, 42, 22, 43, 23, 44, 24, 45, 25, 46, 26, 34, 14);
+           1, 2, 1, 8, 9, 0, 1, DERIVED_FROM);
     EXPECT("other bits", 105, deblock_picture_strengths_flags(&p, &g, 8, 9, ~3u),
-           1, 2, 1, 8, 9, 0, 0, 36, 16, 41, 21, 42, 22, 43, 23, 44, 24, 45, 25, 46, 26, 34, 14);
+           1, 2, 1, 8, 9, 0, 0, DERIVED_FROM);
 }
 
 /* To the strength calls all parts but the frame are a field. */
@@ -180,15 +186,35 @@ static void null_with_a_length(void)
     p.t8s = NULL;
     EXPECT("t8s", 101, deblock_picture_whole(&p), 1, 2, 6, 4, 5, 7, 10, 31, 11, 32, 12, 33, 13, 0, 0, 35, 15);
     EXPECT("t8s", 104, deblock_picture_strengths(&p, &g, 8, 9),
-           1, 2, 1, 8, 9, 0, 0, 41, 21, 42, 22, 43, 23, 44, 24, 45, 25, 46, 26);
+           1, 2, 1, 8, 9, 0, 0, 41, 21, 42, 22, 43, 23, 44, 24, 45, 25, 46, 26, 47, 27, 48, 28);
     p = numbered();
     g.ref1 = NULL;
     EXPECT("ref1", 104, deblock_picture_strengths(&p, &g, 8, 9),
-           1, 2, 1, 8, 9, 36, 16, 0, 0, 42, 22, 43, 23, 44, 24, 0, 0, 46, 26, 34, 14);
+           1, 2, 1, 8, 9, 36, 16, 0, 0, 42, 22, 43, 23, 44, 24, 0, 0, 46, 26, 47, 27, 48, 28, 34, 14);
     g = numbered_grids();
     g.mv1 = NULL;
     EXPECT("mv1", 104, deblock_picture_strengths(&p, &g, 8, 9),
-           1, 2, 1, 8, 9, 36, 16, 0, 0, 42, 22, 43, 23, 44, 24, 45, 25, 0, 0, 34, 14);
+           1, 2, 1, 8, 9, 36, 16, 0, 0, 42, 22, 43, 23, 44, 24, 45, 25, 0, 0, 47, 27, 48, 28, 34, 14);
+}
+
+/* A table that is left out goes on as empty, and with a length the inter bytes go with it. */
+static void null_tables(void)
+{
+    const struct deblock_picture p = numbered();
+    struct deblock_grids g = numbered_grids();
+    g.pictures0 = NULL;
+    EXPECT("pictures0", 104, deblock_picture_strengths(&p, &g, 8, 9),
+           1, 2, 1, 8, 9, 36, 16, 0, 0, 42, 22, 43, 23, 44, 24, 45, 25, 46, 26, 0, 0, 48, 28, 34, 14);
+    g.pictures0_len = 0;
+    EXPECT("no pictures0", 104, deblock_picture_strengths(&p, &g, 8, 9),
+           1, 2, 1, 8, 9, 36, 16, 41, 21, 42, 22, 43, 23, 44, 24, 45, 25, 46, 26, 0, 0, 48, 28, 34, 14);
+    g = numbered_grids();
+    g.pictures1 = NULL;
+    EXPECT("pictures1", 104, deblock_picture_strengths(&p, &g, 8, 9),
+           1, 2, 1, 8, 9, 36, 16, 0, 0, 42, 22, 43, 23, 44, 24, 45, 25, 46, 26, 47, 27, 0, 0, 34, 14);
+    g.pictures1_len = 0;
+    EXPECT("no pictures1", 104, deblock_picture_strengths(&p, &g, 8, 9),
+           1, 2, 1, 8, 9, 36, 16, 41, 21, 42, 22, 43, 23, 44, 24, 45, 25, 46, 26, 47, 27, 0, 0, 34, 14);
 }
 
 /* What comes to V's chroma offset: a sum that every int32_t may be part of. Those below -13 and above 13 go
@@ -224,5 +250,6 @@ int main(void)
     parts();
     all_null();
     null_with_a_length();
+    null_tables();
     return faults != 0;
 }

@@ -31,8 +31,8 @@ static void not_lent(void)
     expect("no marks", DEBLOCK_MACROBLOCK_GRID_LENGTH, deblock_picture_visit(&p, 0, 0));
 }
 
-/* The flags by themselves. Then each line takes one pointer more away; what is refused for it comes earlier
- * in the order of checks. */
+/* The flags, list 1 and the tables by themselves. Then each line takes one pointer more away; what is refused
+ * for it comes earlier in the order of checks. */
 static void null_with_a_length(void)
 {
     struct deblock_picture p = lend_picture();
@@ -43,6 +43,12 @@ static void null_with_a_length(void)
     g.ref1_len = 16 * N;
     g.mv1_len = 32 * N;
     expect_all("list 1", DEBLOCK_DONE, DEBLOCK_BLOCK_GRID_LENGTH, &p, &g);
+    g = lend_grids();
+    g.pictures0_len = 1;
+    expect_all("list 0's table", DEBLOCK_DONE, DEBLOCK_BLOCK_GRID_LENGTH, &p, &g);
+    g.pictures0_len = 0;
+    g.pictures1_len = 1;
+    expect_all("list 1's table", DEBLOCK_DONE, DEBLOCK_BLOCK_GRID_LENGTH, &p, &g);
     p.strengths = NULL;
     expect_all("strengths", DEBLOCK_MACROBLOCK_GRID_LENGTH, DEBLOCK_MACROBLOCK_GRID_LENGTH, &p, &g);
     p.v = NULL;

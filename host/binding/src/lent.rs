@@ -84,8 +84,9 @@ pub struct Flags {
     pub uniform: bool,
 }
 
-/// The 4x4 grids of a picture, in rows of 4 * W blocks. The two grids of list 1 may both be left empty: no
-/// block uses list 1.
+/// The 4x4 grids of a picture, in rows of 4 * W blocks, and for each list a table from index to picture. The
+/// two grids of list 1 may both be left empty: no block uses list 1. So may both tables: references are then
+/// compared as the numbers that are stored. Where list 1 is lent, both tables are empty or neither is.
 #[derive(Clone, Copy, Debug, Default)]
 pub struct Grids<'a> {
     /// 1 if inter, else 0; 16 a macroblock.
@@ -93,8 +94,9 @@ pub struct Grids<'a> {
     /// Counts of luma coefficients; 16 a macroblock. Where the macroblock's 8x8 flag is set, a count in any
     /// of the four blocks of an 8x8 block stands for all four.
     pub nnz: &'a [u8],
-    /// References in list 0 by the number of the picture, -1 for none, as in intra blocks; 16 a macroblock.
-    /// Where the picture is a field its references are fields, each with a number of its own.
+    /// References in list 0, -1 for none, as in intra blocks; 16 a macroblock. Without tables each is the
+    /// number of the picture, with tables an index. Where the picture is a field its references are fields,
+    /// each with a number of its own.
     pub ref0: &'a [i8],
     /// Motion in list 0 in quarter samples, in a field those of the field, x then y of each block; 32 a
     /// macroblock.
@@ -103,6 +105,11 @@ pub struct Grids<'a> {
     pub ref1: &'a [i8],
     /// Motion in list 1.
     pub mv1: &'a [i16],
+    /// For each index of list 0 the number of its picture, 0 to 65,535; a reference past the table is as -1.
+    /// One table serves the whole picture: where slices have lists of their own, store numbers in the grids.
+    pub pictures0: &'a [i32],
+    /// For each index of list 1.
+    pub pictures1: &'a [i32],
 }
 
 #[cfg(test)]

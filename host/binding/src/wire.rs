@@ -56,6 +56,7 @@ mod c {
             inter: *const u8, inter_len: usize, nnz: *const u8, nnz_len: usize,
             ref0: *const i8, ref0_len: usize, mv0: *const i16, mv0_len: usize,
             ref1: *const i8, ref1_len: usize, mv1: *const i16, mv1_len: usize,
+            pictures0: *const i32, pictures0_len: usize, pictures1: *const i32, pictures1_len: usize,
             strengths: *mut u8, strengths_len: usize,
         ) -> u32;
         pub fn deblock_strengths_flags(
@@ -64,6 +65,7 @@ mod c {
             inter: *const u8, inter_len: usize, nnz: *const u8, nnz_len: usize,
             ref0: *const i8, ref0_len: usize, mv0: *const i16, mv0_len: usize,
             ref1: *const i8, ref1_len: usize, mv1: *const i16, mv1_len: usize,
+            pictures0: *const i32, pictures0_len: usize, pictures1: *const i32, pictures1_len: usize,
             strengths: *mut u8, strengths_len: usize,
         ) -> u32;
         pub fn deblock_strengths(
@@ -72,6 +74,7 @@ mod c {
             inter: *const u8, inter_len: usize, nnz: *const u8, nnz_len: usize,
             ref0: *const i8, ref0_len: usize, mv0: *const i16, mv0_len: usize,
             ref1: *const i8, ref1_len: usize, mv1: *const i16, mv1_len: usize,
+            pictures0: *const i32, pictures0_len: usize, pictures1: *const i32, pictures1_len: usize,
             strengths: *mut u8, strengths_len: usize,
         ) -> u32;
         pub fn deblock_whole(
@@ -125,6 +128,7 @@ pub fn strengths_kind(p: &mut Picture, field: u8, g: Grids, at: Place, kind: u8)
             g.inter.as_ptr(), g.inter.len(), g.nnz.as_ptr(), g.nnz.len(),
             g.ref0.as_ptr(), g.ref0.len(), g.mv0.as_ptr(), g.mv0.len(),
             g.ref1.as_ptr(), g.ref1.len(), g.mv1.as_ptr(), g.mv1.len(),
+            g.pictures0.as_ptr(), g.pictures0.len(), g.pictures1.as_ptr(), g.pictures1.len(),
             p.strengths.as_mut_ptr(), p.strengths.len(),
         )
     }
@@ -140,6 +144,7 @@ pub fn strengths_flags(p: &mut Picture, field: u8, g: Grids, at: Place, [flat, u
             g.inter.as_ptr(), g.inter.len(), g.nnz.as_ptr(), g.nnz.len(),
             g.ref0.as_ptr(), g.ref0.len(), g.mv0.as_ptr(), g.mv0.len(),
             g.ref1.as_ptr(), g.ref1.len(), g.mv1.as_ptr(), g.mv1.len(),
+            g.pictures0.as_ptr(), g.pictures0.len(), g.pictures1.as_ptr(), g.pictures1.len(),
             p.strengths.as_mut_ptr(), p.strengths.len(),
         )
     }
@@ -155,6 +160,7 @@ pub fn strengths(p: &mut Picture, field: u8, g: Grids, at: Place) -> u32 {
             g.inter.as_ptr(), g.inter.len(), g.nnz.as_ptr(), g.nnz.len(),
             g.ref0.as_ptr(), g.ref0.len(), g.mv0.as_ptr(), g.mv0.len(),
             g.ref1.as_ptr(), g.ref1.len(), g.mv1.as_ptr(), g.mv1.len(),
+            g.pictures0.as_ptr(), g.pictures0.len(), g.pictures1.as_ptr(), g.pictures1.len(),
             p.strengths.as_mut_ptr(), p.strengths.len(),
         )
     }

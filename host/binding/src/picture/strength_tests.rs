@@ -1,5 +1,7 @@
 //! The strength calls by cases that are worked by hand.
 
+mod tables;
+
 use super::*;
 
 type Ask = fn(&mut Picture, Grids, Place) -> Answer;

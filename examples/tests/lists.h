@@ -1,0 +1,54 @@
+/* For the tests of reference tables: both lists of the picture of station.h, in which all blocks are inter
+ * and none is coded, and the strength calls in six ways. */
+#include "test.h"
+
+static int8_t ref1[16 * N];
+static int16_t mv1[32 * N];
+
+/* Both lists with their tables; list 1 may be left out. No pointer is null, since flat calls take them. */
+static inline struct deblock_grids lend_lists(int list1, const int32_t *pictures0, size_t len0,
+                                              const int32_t *pictures1, size_t len1)
+{
+    struct deblock_grids g = lend_grids();
+    g.ref1 = ref1;
+    g.mv1 = mv1;
+    if (list1) {
+        g.ref1_len = 16 * N;
+        g.mv1_len = 32 * N;
+    }
+    g.pictures0 = pictures0;
+    g.pictures0_len = len0;
+    g.pictures1 = pictures1;
+    g.pictures1_len = len1;
+    return g;
+}
+
+/* What the flat calls take after their first arguments. No 8x8 flags are lent. */
+#define LENT(g) \
+    inter, 0, g.inter, g.inter_len, g.nnz, g.nnz_len, \
+    g.ref0, g.ref0_len, g.mv0, g.mv0_len, g.ref1, g.ref1_len, g.mv1, g.mv1_len, \
+    g.pictures0, g.pictures0_len, g.pictures1, g.pictures1_len, strengths, sizeof strengths
+
+enum { WAYS = 6 };
+
+/* Derives the strengths of macroblock i, over structs or flat, and says of it nothing, flags or a kind. */
+static inline uint32_t derive_as(int way, struct deblock_grids g, size_t i, unsigned flags, uint8_t kind)
+{
+    const struct deblock_picture p = lend_picture();
+    const size_t x = i % W, y = i / W;
+    const uint8_t flat = (flags & DEBLOCK_FLAT) != 0, uniform = (flags & DEBLOCK_UNIFORM) != 0;
+    switch (way) {
+    case 0: return deblock_picture_strengths(&p, &g, x, y);
+    case 1: return deblock_picture_strengths_flags(&p, &g, x, y, flags);
+    case 2: return deblock_picture_strengths_kind(&p, &g, x, y, kind);
+    case 3: return deblock_strengths(W, H, 0, x, y, LENT(g));
+    case 4: return deblock_strengths_flags(W, H, 0, x, y, flat, uniform, LENT(g));
+    default: return deblock_strengths_kind(W, H, 0, x, y, kind, LENT(g));
+    }
+}
+
+/* Of inter blocks, of which nothing else is said. */
+static inline uint32_t derive(int way, struct deblock_grids g, size_t i)
+{
+    return derive_as(way, g, i, 0, DEBLOCK_INTER);
+}

@@ -8,11 +8,12 @@ mod rows;
 mod stated;
 mod values;
 
+use crate::original::lent;
 use crate::request::{Call, Request};
 use crate::subject::{Archive, Subject};
 use crate::table;
 use lengths::LENGTHS;
-use oracle::{Blocks, Grids, Offsets, Planes, Stored};
+use oracle::{Blocks, Offsets, Planes, Stored};
 use rows::{Row, Rust};
 use stated::{Stated, STATED};
 use std::panic::{catch_unwind, set_hook, take_hook, AssertUnwindSafe};
@@ -137,8 +138,7 @@ pub fn original(q: &Request) -> Seen {
     let [a, b, chroma, chroma_v] = q.offsets;
     assert_eq!(chroma, chroma_v, "the original has one chroma offset");
     let mut after = q.clone();
-    let grids = Grids { inter: &q.inter, nnz: &q.nnz, ref0: &q.ref0, mv0: &q.mv0, ref1: &q.ref1, mv1: &q.mv1 };
-    let blocks = Blocks::new(q.w, grids);
+    let blocks = Blocks::new(q.w, lent(q));
     let stored = (!q.call.is_strengths()).then(|| Stored::new(q.w, q.h, &q.strengths, &q.qps, &q.t8s));
     let offsets = Offsets { a, b, chroma };
     let t8 = q.t8s.get(q.at()) == Some(&1);

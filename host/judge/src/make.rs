@@ -1,6 +1,7 @@
 //! Random requests to which no refusal applies (a visit or an untrue kind may still be refused, as the table
 //! says).
 
+use crate::make_tables;
 use crate::request::{Call, Request, Structure};
 use inputs::{strengths, texture, Content, Rng, Texture};
 
@@ -119,6 +120,7 @@ pub fn grids(r: &mut Rng, of: Structure, call: Call, w: usize, h: usize) -> Requ
     if r.once_in(3) {
         spread_counts(&mut q);
     }
+    make_tables::lend(r, &mut q);
     place(r, &mut q);
     q
 }

@@ -6,7 +6,7 @@ use crate::request::{Call, Request};
 use crate::table;
 
 /// What the table answers to the request after a change.
-fn with(r: &Request, change: impl Fn(&mut Request)) -> u32 {
+pub fn with(r: &Request, change: impl Fn(&mut Request)) -> u32 {
     let mut other = r.clone();
     change(&mut other);
     table::answer(&other)
@@ -67,14 +67,14 @@ impl Model {
             Mistake::EmptyListOneRefused if done && r.ref1.is_empty() => Some(5),
             Mistake::FlatNeedsUniform if done && r.call == Call::Flags && r.flat != 0 && r.uniform == 0 => Some(12),
             Mistake::StrengthsAskPart if done && r.part > 2 => Some(19),
-            _ if r.call.is_strengths() => self.wrong_flags(r, number),
+            _ if r.call.is_strengths() => self.wrong_flags(r, number).or_else(|| self.wrong_tables(r, number)),
             _ => None,
         }
     }
 
     /// Of 8x8 flags, in strength calls.
     fn wrong_flags(&self, r: &Request, number: u32) -> Option<u32> {
-        let after_7 = [0, 10, 11, 12].contains(&number);
+        let after_7 = [0, 10, 22, 11, 12].contains(&number);
         match self.mistake? {
             Mistake::FlagLengthUnasked if number == 4 => Some(with(r, |q| q.t8s = Vec::new().into())),
             Mistake::NoFlagsRefused if number == 0 && r.t8s.is_empty() => Some(4),

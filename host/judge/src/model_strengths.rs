@@ -4,7 +4,7 @@ use crate::mistakes::Mistake;
 use crate::model::Model;
 use crate::request::{Call, Request};
 
-/// The used references of a block with their vectors.
+/// The pictures that a block predicts from, with their vectors.
 type Used = Vec<(i32, [i32; 2])>;
 
 impl Model {
@@ -88,14 +88,13 @@ impl Model {
     }
 
     fn used(&self, r: &Request, i: usize) -> Used {
-        let mut used = Used::new();
-        if r.ref0[i] >= 0 {
-            used.push((r.ref0[i].into(), [r.mv0[2 * i].into(), r.mv0[2 * i + 1].into()]));
-        }
-        if !r.ref1.is_empty() && r.ref1[i] >= 0 && !self.has(Mistake::ListOneIgnored) {
-            used.push((r.ref1[i].into(), [r.mv1[2 * i].into(), r.mv1[2 * i + 1].into()]));
-        }
-        used
+        let lists = r.lists().into_iter().enumerate().filter(|(_, list)| !list.refs.is_empty());
+        let looked_at = lists.filter(|(number, _)| *number == 0 || !self.has(Mistake::ListOneIgnored));
+        let used = looked_at.filter_map(|(number, list)| {
+            let picture = self.picture(r, number, list.refs[i])?;
+            Some((picture, [list.mvs[2 * i].into(), list.mvs[2 * i + 1].into()]))
+        });
+        used.collect()
     }
 
     fn differs(&self, p: &Used, q: &Used, reach: [i32; 2]) -> bool {

@@ -8,6 +8,12 @@
 //! Nor does it know coefficients of 8x8 blocks. Where an 8x8 flag that is read is set it is asked as long as
 //! no count tells a block from its 8x8 block.
 //!
+//! Reference tables are lent as its lists `poc0` and `poc1`. Where both are empty identity lists stand in
+//! their place, since without lists it takes -1 for a picture. With tables it can be asked about all that is
+//! taken: where just one is empty it would compare numbers with pictures, but that is refused, unless it is
+//! that of a list 1 that is not lent, at which it does not look; and -2^31, its NO_REF, is refused as an
+//! entry.
+//!
 //! It has one chroma offset. Where U's and V's differ it is asked twice, once with each: luma must be the
 //! same of both, U is taken from the first answer and V from the second.
 
@@ -55,9 +61,14 @@ fn knows_counts(r: &Request) -> bool {
     !reads_flag(r) || !(r.call == Call::Kind && is_8x8(r.at())) && alike()
 }
 
+/// What a strength call of the original is lent.
+pub fn lent(r: &Request) -> Grids<'_> {
+    let Request { inter, nnz, ref0, mv0, ref1, mv1, pictures0, pictures1, .. } = r;
+    Grids { inter, nnz, ref0, mv0, ref1, mv1, pictures0, pictures1 }
+}
+
 fn strengths(r: &mut Request) {
-    let grids = Grids { inter: &r.inter, nnz: &r.nnz, ref0: &r.ref0, mv0: &r.mv0, ref1: &r.ref1, mv1: &r.mv1 };
-    let blocks = Blocks::new(r.w, grids);
+    let blocks = Blocks::new(r.w, lent(r));
     let t8 = r.t8s.get(r.at()) == Some(&1);
     let own = match r.call {
         Call::Kind => blocks.by_kind(r.x, r.y, r.kind),
@@ -167,6 +178,38 @@ mod tests {
         let mut spread = q.clone();
         crate::make::spread_counts(&mut spread);
         [work(&mut q), work(&mut spread)]
+    }
+
+    /// Of a lone macroblock whose block 0 has this reference in list 0 and the others have that one, with no
+    /// list 1: whether 1 stands around block 0. The original decides, in a field it is asked.
+    fn tells_apart(references: [i8; 2], vector: i16, tables: [&[i32]; 2]) -> bool {
+        let around = [0, 1].map(|part| {
+            let mut q = kinds_picture(part, 1, 1, &[2]);
+            (q.call, q.ref1, q.mv1) = (Call::Flagless, Buffer::default(), Buffer::default());
+            q.ref0.fill(references[1]);
+            (q.ref0[0], q.mv0[0]) = (references[0], vector);
+            (q.pictures0, q.pictures1) = (tables[0].to_vec().into(), tables[1].to_vec().into());
+            assert_eq!((table::answer(&q), decides(&q)), (0, part == 0));
+            assert!(work(&mut q));
+            assert!(q.strengths.iter().enumerate().all(|(i, s)| *s == 0 || (i == 4 || i == 20) && *s == 1));
+            q.strengths[4] == 1
+        });
+        assert_eq!(around[0], around[1]);
+        around[0]
+    }
+
+    #[test]
+    fn tables_are_its_lists() {
+        let plain = [[0, 0], [0, 1], [127, 0], [-1, 0], [-1, -1]].map(|refs| tells_apart(refs, 0, [&[], &[]]));
+        assert_eq!(plain, [false, true, true, true, false]);
+        for second in [&[][..], &[3]] {
+            let lent = |refs, table| tells_apart(refs, 0, [table, second]);
+            assert_eq!([lent([0, 1], &[7, 7]), lent([0, 1], &[7, 9]), lent([0, 1], &[7])], [false, true, true]);
+            assert_eq!([lent([-1, 2], &[7, 7]), lent([127, 2], &[7, 7]), lent([0, -1], &[7])], [false, false, true]);
+        }
+        let far = |reference, tables| tells_apart([reference; 2], 4, tables);
+        assert_eq!([far(0, [&[], &[]]), far(0, [&[7], &[]]), far(1, [&[7], &[]])], [true, true, false]);
+        assert_eq!([far(-1, [&[], &[]]), far(-1, [&[7], &[]])], [false; 2]);
     }
 
     #[test]

@@ -2,14 +2,15 @@
 
 use crate::make;
 use crate::request::{Buffer, Call, Lent, Request, Structure, CALLS};
-use crate::session::{Outcome, Session};
+use crate::session::{Failure, Outcome, Session};
+use crate::table;
 use inputs::Rng;
 
 /// A way to spoil a request, at random places: read or not, the table says which.
 type Damage = fn(&mut Rng, &mut Request);
 
 /// Each with the number that it calls forth, in some call and at some place.
-const DAMAGES: [(u32, Damage); 28] = [
+const DAMAGES: [(u32, Damage); 30] = [
     (1, |r, q| q.w = r.pick(&HUGE)),
     (1, |r, q| q.h = r.pick(&HUGE)),
     (1, |r, q| (q.w, q.h) = r.pick(&[(256, 145), (145, 256), (256, 256), (193, 192), (1 << 32, 1 << 32)])),
@@ -26,6 +27,7 @@ const DAMAGES: [(u32, Damage); 28] = [
     (5, |r, q| if r.once_in(2) { spoil_length(r, &mut q.inter) } else { spoil_length(r, &mut q.nnz) }),
     (5, |r, q| if r.once_in(2) { spoil_length(r, &mut q.ref0) } else { spoil_length(r, &mut q.mv0) }),
     (5, |r, q| if r.once_in(2) { spoil_length(r, &mut q.ref1) } else { spoil_length(r, &mut q.mv1) }),
+    (5, leave_one_table),
     (6, |r, q| q.offsets[r.below(2)] = r.pick(&FAR_OFFSETS)),
     (6, |r, q| q.offsets[2] = r.pick(&FAR_OFFSETS)),
     (6, |r, q| q.offsets[3] = r.pick(&FAR_OFFSETS)),
@@ -54,6 +56,7 @@ const DAMAGES: [(u32, Damage); 28] = [
             spoil_near(r, q, |q| &mut q.ref1, value)
         }
     }),
+    (22, spoil_number),
     (11, |r, q| {
         let value = r.below(2) as u8;
         spoil_near(r, q, |q| &mut q.inter, value)
@@ -118,6 +121,21 @@ pub fn spoiled(s: &mut Session, r: &mut Rng, of: Structure) -> Outcome {
     s.check("refusals", &q)
 }
 
+/// A change that is sure to call a number forth.
+pub type Sure = (u32, fn(&mut Request));
+
+/// Two changes of `sure`: the one that stands first there, since it is asked first, is the answer.
+pub fn pair(s: &mut Session, mut q: Request, sure: &[Sure], one: usize, other: usize) -> Outcome {
+    let [(asked, first), (_, second)] = [one.min(other), one.max(other)].map(|i| sure[i]);
+    first(&mut q);
+    second(&mut q);
+    let number = table::answer(&q);
+    if number != asked {
+        return Err(Failure(format!("{:?}: the table answers {number}, and {asked} is asked first", q.call)));
+    }
+    s.check("pairs", &q)
+}
+
 fn good(r: &mut Rng, of: Structure, call: Call, area: usize) -> Request {
     let (w, h) = make::size(r, area);
     if call.is_strengths() {
@@ -138,6 +156,30 @@ pub fn spoil_length<T: Lent + Default>(r: &mut Rng, b: &mut Buffer<T>) {
     let len = b.len();
     let other = r.pick(&[len.saturating_sub(1), len + 1, 0, 1, 2 * len, len / 2]);
     b.resize(other, T::default());
+}
+
+/// Just one of the two tables, either of them.
+fn leave_one_table(r: &mut Rng, q: &mut Request) {
+    let mut tables = q.tables();
+    tables.rotate_left(r.below(2));
+    let [lent, empty] = tables;
+    *empty = Buffer::default();
+    if lent.is_empty() {
+        *lent = vec![7; 1 + r.below(3)].into();
+    }
+}
+
+/// A number out of range, in either table: at an end, at a limit of references, or anywhere. A table that is
+/// not there is made for it, and one for list 0 in any case.
+fn spoil_number(r: &mut Rng, q: &mut Request) {
+    let list = r.below(2);
+    let made = q.tables().into_iter().take(list + 1).filter(|table| table.is_empty());
+    made.for_each(|table| *table = vec![7; 2].into());
+    let [first, second] = q.tables();
+    let own = if list == 0 { first } else { second };
+    let (last, anywhere) = (own.len() - 1, r.below(own.len()));
+    let place = r.pick(&[0, last, 127, 128, anywhere, anywhere]).min(last);
+    own[place] = r.pick(&[-1, 65_536, i32::MIN, i32::MAX, -65_536, 65_543]);
 }
 
 /// Changes one entry of a buffer: of this macroblock, of one beside it, or anywhere.

@@ -56,6 +56,14 @@ impl Structure {
     }
 }
 
+/// What is lent of a list: references and vectors of all blocks, and the table from index to picture.
+#[derive(Clone, Copy)]
+pub struct List<'a> {
+    pub refs: &'a [i8],
+    pub mvs: &'a [i16],
+    pub pictures: &'a [i32],
+}
+
 /// A call and its arguments. What the call does not take stays empty or 0.
 #[derive(Clone, PartialEq)]
 pub struct Request {
@@ -82,6 +90,8 @@ pub struct Request {
     pub mv0: Buffer<i16>,
     pub ref1: Buffer<i8>,
     pub mv1: Buffer<i16>,
+    pub pictures0: Buffer<i32>,
+    pub pictures1: Buffer<i32>,
     pub strengths: Buffer<u8>,
     pub luma: Buffer<u8>,
     pub u: Buffer<u8>,
@@ -112,6 +122,8 @@ impl Request {
             mv0: Buffer::default(),
             ref1: Buffer::default(),
             mv1: Buffer::default(),
+            pictures0: Buffer::default(),
+            pictures1: Buffer::default(),
             strengths: Buffer::default(),
             luma: Buffer::default(),
             u: Buffer::default(),
@@ -136,6 +148,21 @@ impl Request {
         Structure::of(self.part)
     }
 
+    pub fn lists(&self) -> [List<'_>; 2] {
+        let Request { ref0, mv0, pictures0, ref1, mv1, pictures1, .. } = self;
+        [(ref0, mv0, pictures0), (ref1, mv1, pictures1)].map(|(refs, mvs, pictures)| List { refs, mvs, pictures })
+    }
+
+    /// Whether a strength call is lent a table for a list at least.
+    pub fn has_tables(&self) -> bool {
+        self.call.is_strengths() && self.lists().iter().any(|list| !list.pictures.is_empty())
+    }
+
+    /// The two tables, for a change.
+    pub fn tables(&mut self) -> [&mut Buffer<i32>; 2] {
+        [&mut self.pictures0, &mut self.pictures1]
+    }
+
     /// The first thing that differs between two requests, in words.
     pub fn difference(&self, other: &Request) -> Option<String> {
         differs("inter", &self.inter, &other.inter)
@@ -144,6 +171,8 @@ impl Request {
             .or_else(|| differs("mv0", &self.mv0, &other.mv0))
             .or_else(|| differs("ref1", &self.ref1, &other.ref1))
             .or_else(|| differs("mv1", &self.mv1, &other.mv1))
+            .or_else(|| differs("pictures0", &self.pictures0, &other.pictures0))
+            .or_else(|| differs("pictures1", &self.pictures1, &other.pictures1))
             .or_else(|| differs("strengths", &self.strengths, &other.strengths))
             .or_else(|| differs("luma", &self.luma, &other.luma))
             .or_else(|| differs("u", &self.u, &other.u))
@@ -161,6 +190,8 @@ impl Request {
         self.mv0.undo(&before.mv0, &after.mv0);
         self.ref1.undo(&before.ref1, &after.ref1);
         self.mv1.undo(&before.mv1, &after.mv1);
+        self.pictures0.undo(&before.pictures0, &after.pictures0);
+        self.pictures1.undo(&before.pictures1, &after.pictures1);
         self.strengths.undo(&before.strengths, &after.strengths);
         self.luma.undo(&before.luma, &after.luma);
         self.u.undo(&before.u, &after.u);
@@ -206,7 +237,7 @@ macro_rules! lent {
         })*
     };
 }
-lent! { u8 0xA5 i8 -0x5B i16 -0x5A5B }
+lent! { u8 0xA5 i8 -0x5B i16 -0x5A5B i32 -0x5A5A_5A5B }
 
 /// Lent memory between guards. Comparing two buffers compares their guards too, so a byte written beside a
 /// buffer shows.

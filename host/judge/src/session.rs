@@ -91,6 +91,9 @@ impl<'a> Session<'a> {
         let asks = !decides || self.by_original.is_multiple_of(MODEL_ASKED);
         let other = asks.then(|| second_opinion(r)).flatten();
         self.note(held_to(r, decides, other.is_some()));
+        if r.has_tables() {
+            self.note(held_to_with_tables(decides, other.is_some()));
+        }
         match other.and_then(|other| other.difference(want)) {
             None => Ok(()),
             Some(what) => {
@@ -172,6 +175,16 @@ fn held_to(r: &Request, original_decides: bool, both: bool) -> &'static str {
         (Structure::Frame, false, true) => "calls on frames with 8x8 flags, held to the model and to the original",
         (Structure::Field, _, false) => "calls on fields, held to the model",
         (Structure::Field, _, true) => "calls on fields, held to the model and to the original",
+    }
+}
+
+/// What a call with reference tables is held to, in words; it is told as one without them too.
+fn held_to_with_tables(original_decides: bool, both: bool) -> &'static str {
+    match (original_decides, both) {
+        (true, false) => "calls with reference tables among these, held to the original",
+        (true, true) => "calls with reference tables among these, held to the original and to the model",
+        (false, false) => "calls with reference tables among these, held to the model",
+        (false, true) => "calls with reference tables among these, held to the model and to the original",
     }
 }
 

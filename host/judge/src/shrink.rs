@@ -19,6 +19,8 @@ pub fn smallest(r: &Request, fails: impl Fn(&Request) -> bool) -> Request {
     let mut keep = |r: &Request| Instant::now() < end && fails(r);
     plain(&mut best, |r| &mut r.t8s, 0, &mut keep);
     plain(&mut best, |r| &mut r.nnz, 0, &mut keep);
+    plain(&mut best, |r| &mut r.pictures1, 0, &mut keep);
+    plain(&mut best, |r| &mut r.pictures0, 0, &mut keep);
     plain(&mut best, |r| &mut r.mv1, 0, &mut keep);
     plain(&mut best, |r| &mut r.mv0, 0, &mut keep);
     plain(&mut best, |r| &mut r.ref1, -1, &mut keep);
@@ -112,14 +114,32 @@ fn plain_numbers(best: &mut Request, fails: &impl Fn(&Request) -> bool) {
         r.mv1 = Buffer::default();
     });
     attempt(best, fails, |r| r.t8s = Buffer::default());
+    attempt(best, fails, |r| r.tables().into_iter().for_each(|table| *table = Buffer::default()));
+    for list in 0..2 {
+        shorter_table(best, fails, list);
+    }
 }
 
-fn attempt(best: &mut Request, fails: &impl Fn(&Request) -> bool, change: impl Fn(&mut Request)) {
+/// Cuts a table to half of its length and by one entry, again and again as long as that fails.
+fn shorter_table(best: &mut Request, fails: &impl Fn(&Request) -> bool, list: usize) {
+    loop {
+        let length = best.lists()[list].pictures.len();
+        let mut cut = |to: usize| to < length && attempt(best, fails, |r| r.tables()[list].resize(to, 0));
+        if !cut(length / 2) && !cut(length.saturating_sub(1)) {
+            return;
+        }
+    }
+}
+
+/// Whether the case still fails so, and is changed.
+fn attempt(best: &mut Request, fails: &impl Fn(&Request) -> bool, change: impl Fn(&mut Request)) -> bool {
     let mut tried = best.clone();
     change(&mut tried);
-    if fails(&tried) {
+    let still = fails(&tried);
+    if still {
         *best = tried;
     }
+    still
 }
 
 /// Makes runs of entries equal to `value`: all, then halves, quarters, down to single ones.
@@ -160,6 +180,8 @@ pub fn describe(r: &Request) -> String {
         entries("mv0", &r.mv0, 0),
         entries("ref1 (else -1)", &r.ref1, -1),
         entries("mv1", &r.mv1, 0),
+        entries("pictures0", &r.pictures0, 0),
+        entries("pictures1", &r.pictures1, 0),
         entries("strengths", &r.strengths, 0),
         entries("y (else 100)", &r.luma, 100),
         entries("u (else 100)", &r.u, 100),
@@ -198,6 +220,17 @@ mod tests {
         assert_eq!(small.strengths.iter().map(|&s| s as u32).sum::<u32>(), 3);
         assert!(small.luma.iter().all(|&s| s == 100));
         assert!(describe(&small).contains("strengths: length 32, [7] 3"));
+    }
+
+    /// A table is cut to what is needed of it, the other one to nothing.
+    #[test]
+    fn tables_become_short() {
+        let mut q = crate::make::blocks(&mut inputs::Rng::new(8), Structure::Frame, Call::Flagless, 2, 2);
+        q.tables().into_iter().for_each(|table| *table = vec![9; 30].into());
+        q.pictures1[6] = 300;
+        let small = smallest(&q, |r| r.pictures1.contains(&300));
+        assert_eq!((small.w, small.h, small.pictures0.len()), (1, 1, 0));
+        assert_eq!(small.pictures1[..], [0, 0, 0, 0, 0, 0, 300]);
     }
 
     #[test]

@@ -5,13 +5,14 @@ use crate::request::{Call, Request, Structure, FILTER_CALLS};
 use crate::session::{Outcome, Session};
 use crate::small_fields;
 use crate::small_flags;
+use crate::small_tables;
 use inputs::{Rng, Texture};
 
 pub const SIZES: [(usize, usize); 4] = [(1, 1), (2, 1), (1, 2), (2, 2)];
 
 /// All the exhaustive runs; `share` 1 is all of it, 2 every second case, and so on.
 pub fn run(s: &mut Session, share: usize) -> Outcome {
-    let mut thin = Thin { share, count: 0 };
+    let mut thin = Thin::one_of(share);
     for part in 0..3 {
         s.about(Structure::of(part));
         every_strength_on_every_segment(s, &mut thin, part)?;
@@ -26,6 +27,7 @@ pub fn run(s: &mut Session, share: usize) -> Outcome {
             every_pair_of_motions(s, &mut thin, part)?;
             every_kind_of_macroblock(s, &mut thin, part)?;
             small_flags::run(s, &mut thin, part)?;
+            small_tables::run(s, &mut thin, part)?;
         }
     }
     small_fields::run(s, &mut thin)
@@ -38,6 +40,10 @@ pub struct Thin {
 }
 
 impl Thin {
+    pub fn one_of(share: usize) -> Thin {
+        Thin { share, count: 0 }
+    }
+
     pub fn takes(&mut self) -> bool {
         self.count += 1;
         self.count.is_multiple_of(self.share)
@@ -294,7 +300,7 @@ mod tests {
     /// Whether a part of the set tells.
     fn tells(set: fn(&mut Session, &mut Thin, u8) -> Outcome, mistake: Option<Mistake>) -> bool {
         let model = Model::with(mistake);
-        let mut thin = Thin { share: 16, count: 0 };
+        let mut thin = Thin::one_of(16);
         (0..2).any(|part| set(&mut Session::new(&model, false), &mut thin, part).is_err())
     }
 

@@ -1,9 +1,9 @@
 //! Of fields alone: everything, where everything is few.
 
+use crate::refusals::{self, Sure};
 use crate::request::{Call, Request, FILTER_CALLS, STRENGTH_CALLS};
-use crate::session::{Failure, Outcome, Session};
+use crate::session::{Outcome, Session};
 use crate::small::{blocky, product, two_macroblocks, Thin};
-use crate::table;
 
 pub fn run(s: &mut Session, thin: &mut Thin) -> Outcome {
     every_part(s)?;
@@ -54,11 +54,9 @@ fn every_difference(s: &mut Session, thin: &mut Thin) -> Outcome {
     Ok(())
 }
 
-type Damage = fn(&mut Request);
-
 /// What each refusal of a call on two fields of 2 by 2 macroblocks is sure to come of, in the order in which
 /// they are asked.
-const SURE: [(u32, Damage); 13] = [
+const SURE: [Sure; 13] = [
     (1, |q| q.h = 257),
     (2, |q| (q.x, q.last) = (2, 3)),
     (19, |q| q.part = 3),
@@ -74,7 +72,7 @@ const SURE: [(u32, Damage); 13] = [
     (14, |q| q.marks[2] = 0),
 ];
 
-/// Each alone and each with each, in both fields: the one that is asked first is the answer.
+/// Each alone and each with each, in both fields.
 fn every_pair_of_refusals(s: &mut Session) -> Outcome {
     for (first, second, call, field) in product([SURE.len(), SURE.len(), 3, 2]) {
         let call = FILTER_CALLS[call];
@@ -83,17 +81,9 @@ fn every_pair_of_refusals(s: &mut Session) -> Outcome {
             Call::Rows => &[13, 14],
             _ => &[],
         };
-        let pair = [first.min(second), first.max(second)].map(|i| SURE[i]);
-        if pair.iter().any(|(number, _)| unasked.contains(number)) {
-            continue;
+        if ![first, second].iter().any(|i| unasked.contains(&SURE[*i].0)) {
+            refusals::pair(s, ready(1 + field as u8, call), &SURE, first, second)?;
         }
-        let mut q = ready(1 + field as u8, call);
-        pair.iter().for_each(|(_, damage)| damage(&mut q));
-        let (number, asked) = (table::answer(&q), pair[0].0);
-        if number != asked {
-            return Err(Failure(format!("{call:?}: the table answers {number}, and {asked} is asked first")));
-        }
-        s.check("parts", &q)?;
     }
     Ok(())
 }

@@ -19,7 +19,7 @@ pub trait Subject {
 /// The proved filter. Of three calls one is made between guard elements, two between fences.
 pub struct Archive {
     turn: Cell<usize>,
-    fences: RefCell<[Fenced; 13]>,
+    fences: RefCell<[Fenced; 10]>,
 }
 
 impl Archive {
@@ -34,24 +34,50 @@ impl Archive {
     }
 
     /// Room for as many buffers as a call may take.
-    pub fn fences(&self) -> RefMut<'_, [Fenced; 13]> {
+    pub fn fences(&self) -> RefMut<'_, [Fenced; 10]> {
         self.fences.borrow_mut()
     }
 }
 
-impl Subject for Archive {
-    fn call(&self, r: &mut Request) -> u32 {
+impl Archive {
+    fn derive(&self, r: &mut Request) -> u32 {
         let side = self.next_side();
         let mut fences = self.fences();
-        let [f0, f1, f2, f3, f4, f5, f6, f7, f8, f9, f10, f11, f12] = &mut *fences;
-        let (inter, nnz) = (f0.lend(&mut r.inter, side), f1.lend(&mut r.nnz, side));
-        let (ref0, mv0) = (f2.lend(&mut r.ref0, side), f3.lend(&mut r.mv0, side));
-        let (ref1, mv1) = (f4.lend(&mut r.ref1, side), f5.lend(&mut r.mv1, side));
-        let mut strengths = f6.lend(&mut r.strengths, side);
-        let mut luma = f7.lend(&mut r.luma, side);
-        let (mut u, mut v) = (f8.lend(&mut r.u, side), f9.lend(&mut r.v, side));
-        let (qps, t8s) = (f10.lend(&mut r.qps, side), f11.lend(&mut r.t8s, side));
-        let mut marks = f12.lend(&mut r.marks, side);
+        let [f0, f1, f2, f3, f4, f5, f6, f7, f8, f9] = &mut *fences;
+        let (t8s, mut strengths) = (f0.lend(&mut r.t8s, side), f1.lend(&mut r.strengths, side));
+        let (inter, nnz) = (f2.lend(&mut r.inter, side), f3.lend(&mut r.nnz, side));
+        let (ref0, mv0) = (f4.lend(&mut r.ref0, side), f5.lend(&mut r.mv0, side));
+        let (ref1, mv1) = (f6.lend(&mut r.ref1, side), f7.lend(&mut r.mv1, side));
+        let (pictures0, pictures1) = (f8.lend(&mut r.pictures0, side), f9.lend(&mut r.pictures1, side));
+
+        let size = Size { w: r.w, h: r.h };
+        let mut picture = Picture { size, t8s: &t8s, strengths: &mut strengths, ..Picture::default() };
+        let grids = Grids {
+            inter: &inter,
+            nnz: &nnz,
+            ref0: &ref0,
+            mv0: &mv0,
+            ref1: &ref1,
+            mv1: &mv1,
+            pictures0: &pictures0,
+            pictures1: &pictures1,
+        };
+        let at = Place { x: r.x, y: r.y };
+        match r.call {
+            Call::Kind => wire::strengths_kind(&mut picture, r.part, grids, at, r.kind),
+            Call::Flags => wire::strengths_flags(&mut picture, r.part, grids, at, [r.flat, r.uniform]),
+            _ => wire::strengths(&mut picture, r.part, grids, at),
+        }
+    }
+
+    fn filter(&self, r: &mut Request) -> u32 {
+        let side = self.next_side();
+        let mut fences = self.fences();
+        let [f0, f1, f2, f3, f4, f5, f6, ..] = &mut *fences;
+        let mut luma = f0.lend(&mut r.luma, side);
+        let (mut u, mut v) = (f1.lend(&mut r.u, side), f2.lend(&mut r.v, side));
+        let (qps, t8s) = (f3.lend(&mut r.qps, side), f4.lend(&mut r.t8s, side));
+        let (mut strengths, mut marks) = (f5.lend(&mut r.strengths, side), f6.lend(&mut r.marks, side));
 
         let [a, b, chroma_u, chroma_v] = r.offsets;
         let mut picture = Picture {
@@ -66,15 +92,20 @@ impl Subject for Archive {
             marks: &mut marks,
             ..Picture::default()
         };
-        let grids = Grids { inter: &inter, nnz: &nnz, ref0: &ref0, mv0: &mv0, ref1: &ref1, mv1: &mv1 };
-        let at = Place { x: r.x, y: r.y };
         match r.call {
-            Call::Kind => wire::strengths_kind(&mut picture, r.part, grids, at, r.kind),
-            Call::Flags => wire::strengths_flags(&mut picture, r.part, grids, at, [r.flat, r.uniform]),
-            Call::Flagless => wire::strengths(&mut picture, r.part, grids, at),
             Call::Whole => wire::whole(&mut picture, r.part),
             Call::Rows => wire::rows(&mut picture, r.part, r.first, r.last),
-            Call::Visit => wire::visit(&mut picture, r.part, at),
+            _ => wire::visit(&mut picture, r.part, Place { x: r.x, y: r.y }),
+        }
+    }
+}
+
+impl Subject for Archive {
+    fn call(&self, r: &mut Request) -> u32 {
+        if r.call.is_strengths() {
+            self.derive(r)
+        } else {
+            self.filter(r)
         }
     }
 

@@ -4,13 +4,13 @@
 //! A check may use what the checks above it have excluded, as in the rules. It looks at what the call
 //! takes and, from no. 7 on, at what the call reads.
 
-use crate::request::{Call, Request};
+use crate::request::{Call, List, Request};
 use std::ops::Range;
 
 type Check = fn(&Request) -> bool;
 
 /// No., "given exactly when", in the order in which they are asked.
-const TABLE: [(u32, Check); 15] = [
+const TABLE: [(u32, Check); 16] = [
     (1, size_out_of_range),
     (2, place_outside),
     (19, no_such_part),
@@ -22,6 +22,7 @@ const TABLE: [(u32, Check); 15] = [
     (8, qp_read_above_51),
     (9, strength_read_above_4),
     (10, reference_read_below_minus_1),
+    (22, picture_number_out_of_range),
     (11, blocks_disagree_on_inter),
     (12, kind_or_flag_untrue),
     (13, marked_already),
@@ -83,7 +84,9 @@ fn block_grid_of_wrong_length(r: &Request) -> bool {
             || r.nnz.len() != n
             || r.ref0.len() != n
             || r.mv0.len() != 2 * n
-            || !no_list_1 && (r.ref1.len() != n || r.mv1.len() != 2 * n))
+            || !no_list_1 && (r.ref1.len() != n || r.mv1.len() != 2 * n)
+            || r.pictures0.is_empty() && !r.pictures1.is_empty()
+            || !r.pictures0.is_empty() && r.pictures1.is_empty() && !no_list_1)
 }
 
 fn offset_out_of_range(r: &Request) -> bool {
@@ -107,6 +110,11 @@ fn strength_read_above_4(r: &Request) -> bool {
 fn reference_read_below_minus_1(r: &Request) -> bool {
     let list_1 = !r.ref1.is_empty();
     blocks_read(r).concat().iter().any(|&i| r.ref0[i] < -1 || list_1 && r.ref1[i] < -1)
+}
+
+/// Of every entry, read or not.
+fn picture_number_out_of_range(r: &Request) -> bool {
+    r.call.is_strengths() && r.lists().iter().any(|list| list.pictures.iter().any(|p| !(0..=65_535).contains(p)))
 }
 
 fn blocks_disagree_on_inter(r: &Request) -> bool {
@@ -214,16 +222,37 @@ pub fn counts_read(r: &Request) -> Vec<usize> {
     [own, left, above, behind].concat()
 }
 
+/// The entries of each table that references which are read name, those past its end among them.
+pub fn entries_read(r: &Request) -> [Vec<usize>; 2] {
+    let blocks = blocks_read(r).concat();
+    r.lists().map(|list| {
+        let refs = blocks.iter().filter_map(|&block| list.refs.get(block));
+        refs.filter_map(|&reference| usize::try_from(reference).ok()).collect()
+    })
+}
+
 fn is_inter(r: &Request) -> bool {
     r.inter[blocks_read(r)[0][0]] == 1
 }
 
-/// All 16 inter, with equal reference numbers and vectors in both lists, unused vectors included.
+/// The picture that a reference names, if any: by its number, or as an index of a table that is not empty.
+fn named(pictures: &[i32], reference: i8) -> Option<i32> {
+    let index = usize::try_from(reference).ok()?;
+    if pictures.is_empty() {
+        Some(reference.into())
+    } else {
+        pictures.get(index).copied()
+    }
+}
+
+/// All 16 inter, with equal pictures and vectors in both lists, unused vectors included.
 fn is_uniform(r: &Request) -> bool {
     let own = &blocks_read(r)[0];
     let motion = |&i: &usize| {
-        let list_1 = if r.ref1.is_empty() { (-1, 0, 0) } else { (r.ref1[i], r.mv1[2 * i], r.mv1[2 * i + 1]) };
-        (r.ref0[i], r.mv0[2 * i], r.mv0[2 * i + 1], list_1)
+        r.lists().map(|List { refs, mvs, pictures }| match refs {
+            [] => (None, 0, 0),
+            _ => (named(pictures, refs[i]), mvs[2 * i], mvs[2 * i + 1]),
+        })
     };
     is_inter(r) && own.iter().all(|i| motion(i) == motion(&own[0]))
 }

@@ -1,6 +1,6 @@
 //! What a call does not read: other bytes there change neither its answer nor what it makes of the rest, and
 //! come out as they went in. Of a field that is above all the lines of the other one, of a strength call the
-//! blocks and flags beside those that it reads.
+//! blocks and flags beside those that it reads, and picture numbers that no reference which is read names.
 
 use crate::make;
 use crate::request::{Buffer, Call, Lent, Request, Structure, FILTER_CALLS, STRENGTH_CALLS};
@@ -39,11 +39,14 @@ fn still(r: &mut Rng, of: Structure, call: Call) -> Request {
     q
 }
 
-/// Other bytes in all that a call of the right lengths does not read. The strengths that a strength call
-/// writes are not read either, and stay: what it makes of them would not show.
+/// Other bytes in all that a call of the right lengths does not read, and other numbers in tables wherever no
+/// reference that is read names them. The strengths that a strength call writes are not read either, and
+/// stay: what it makes of them would not show.
 fn spoil(r: &mut Rng, q: &mut Request) {
     let (blocks, counts) = (table::blocks_read(q).concat(), table::counts_read(q));
     let is_block = |i: usize| blocks.contains(&i);
+    let used = table::entries_read(q);
+    q.tables().into_iter().zip(used).for_each(|(table, used)| other_numbers(r, table, &used));
     fill(r, &mut q.inter, is_block);
     fill(r, &mut q.nnz, |i| counts.contains(&i));
     fill(r, &mut q.ref0, is_block);
@@ -64,6 +67,13 @@ fn spoil(r: &mut Rng, q: &mut Request) {
     for (plane, side) in [(&mut q.luma, 16), (&mut q.u, 8), (&mut q.v, 8)] {
         let (line, column) = (|i: usize| i / (side * w), |i: usize| i % (side * w));
         fill(r, plane, |i| is_own(line(i)) && qps.contains(&(line(i) / share / side * w + column(i) / side)));
+    }
+}
+
+/// Other numbers wherever a table is not used. They are read, since each must be one, and do not tell.
+fn other_numbers(r: &mut Rng, table: &mut Buffer<i32>, used: &[usize]) {
+    for i in (0..table.len()).filter(|i| !used.contains(i)) {
+        table[i] = (r.bits() as u16).into();
     }
 }
 
@@ -98,6 +108,8 @@ mod tests {
             Mistake::EightInterAsked,
             Mistake::EightReferencesAsked,
             Mistake::AllQpsRead,
+            Mistake::PastIsLast,
+            Mistake::NoneIsFirst,
         ];
         assert_eq!(too_many.into_iter().find(|mistake| !tells(Some(*mistake))), None);
     }

@@ -1,5 +1,5 @@
 //! Prints what crates/answers must print: the original's strengths and pictures for the same inputs. The
-//! original refuses nothing, so the four refused calls are written here as docs/RULES.md, "Answers", has
+//! original refuses nothing, so the five refused calls are written here as docs/RULES.md, "Answers", has
 //! them: their number, and everything as it was.
 use oracle::{Blocks, Grids, Offsets, Planes, Stored};
 
@@ -28,24 +28,56 @@ fn plain(inter: u8, x: usize, t8: bool, s: &mut [u8]) {
     let mut mv0 = [0; 64];
     mv0[44] = 4;
     let refused = inter > 1;
-    let g = Grids { inter: &[inter; 32], nnz: &nnz, ref0: &[0; 32], mv0: &mv0, ref1: &[-1; 32], mv1: &[0; 64] };
+    let g = Grids {
+        inter: &[inter; 32],
+        nnz: &nnz,
+        ref0: &[0; 32],
+        mv0: &mv0,
+        ref1: &[-1; 32],
+        mv1: &[0; 64],
+        ..Grids::default()
+    };
     let fresh = (!refused).then(|| Blocks::new(2, g).flagless(x, 0, t8));
     strengths("plain", if refused { 7 } else { 0 }, x, fresh, s);
+}
+
+/// Inter blocks of two lists, without counts and with vectors 0.
+fn still<'a>(ref0: &'a [i8], ref1: &'a [i8]) -> Grids<'a> {
+    Grids { inter: &[1; 32], nnz: &[0; 32], ref0, mv0: &[0; 64], ref1, mv1: &[0; 64], ..Grids::default() }
 }
 
 fn flagged(x: usize, flat: bool, uniform: bool, refused: bool, s: &mut [u8]) {
     let (mut ref0, mut ref1) = ([5; 32], [7; 32]);
     ref0[4] = 7;
     ref1[4] = 5;
-    let g = Grids { inter: &[1; 32], nnz: &[0; 32], ref0: &ref0, mv0: &[0; 64], ref1: &ref1, mv1: &[0; 64] };
+    let g = still(&ref0, &ref1);
     let fresh = (!refused).then(|| Blocks::new(2, g).by_flags(x, 0, flat, uniform, false));
     strengths("flagged", if refused { 12 } else { 0 }, x, fresh, s);
+}
+
+/// With tables; the last entry of list 0's is given.
+fn listed(x: usize, last: i32, s: &mut [u8]) {
+    let (mut ref0, mut ref1) = ([0; 32], [1; 32]);
+    [ref0[4], ref0[12], ref0[28]] = [2, 3, 1];
+    [ref1[20], ref1[28]] = [0, -1];
+    let refused = last > 65_535;
+    let g = Grids { pictures0: &[5, 7, last], pictures1: &[7, 5], ..still(&ref0, &ref1) };
+    let fresh = (!refused).then(|| Blocks::new(2, g).flagless(x, 0, false));
+    strengths("listed", if refused { 22 } else { 0 }, x, fresh, s);
 }
 
 /// Kinds by number: 0 intra, 1 skip.
 fn by_kind(x: usize, kind: u8, refused: bool, s: &mut [u8]) {
     let inter: Vec<u8> = (0..32).map(|i| (i / 4 % 2) as u8).collect();
-    let g = Grids { inter: &inter, nnz: &[0; 32], ref0: &[2; 32], mv0: &[-7; 64], ref1: &[-1; 32], mv1: &[0; 64] };
+    let g = Grids {
+        inter: &inter,
+        nnz: &[0; 32],
+        ref0: &[2; 32],
+        mv0: &[-7; 64],
+        ref1: &[-1; 32],
+        mv1: &[0; 64],
+        ..Grids::default()
+    };
     let fresh = (!refused).then(|| Blocks::new(2, g).by_kind(x, 0, kind));
     strengths("kind", if refused { 12 } else { 0 }, x, fresh, s);
 }
@@ -76,6 +108,9 @@ fn main() {
     by_kind(0, 0, false, &mut s);
     by_kind(1, 1, false, &mut s);
     by_kind(1, 0, true, &mut s);
+    listed(0, 5, &mut s);
+    listed(1, 5, &mut s);
+    listed(1, 65_536, &mut s);
     plain(0, 0, false, &mut s);
     plain(1, 1, false, &mut s);
     plain(2, 1, false, &mut s);

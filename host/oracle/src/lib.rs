@@ -91,7 +91,7 @@ mod tests {
     fn strengths_three_ways() {
         let (inter, nnz, ref0, mut mv0) = ([1; 32], [0; 32], [5; 32], [0; 64]);
         mv0[..].chunks_mut(16).for_each(|row| row[..8].fill(4)); // the left macroblock is 4 away in x and y
-        let grids = Grids { inter: &inter, nnz: &nnz, ref0: &ref0, mv0: &mv0, ref1: &[], mv1: &[] };
+        let grids = Grids { inter: &inter, nnz: &nnz, ref0: &ref0, mv0: &mv0, ..Grids::default() };
         let blocks = Blocks::new(2, grids);
         let mut want = [0; 32];
         want[..4].fill(1);
@@ -99,5 +99,22 @@ mod tests {
         assert_eq!(blocks.by_flags(1, 0, true, true, false), want);
         assert_eq!(blocks.flagless(1, 0, true), want);
         assert_eq!(blocks.flagless(0, 0, false), [0; 32]);
+    }
+
+    /// Index 0 in the left half of a macroblock and 1 in the right one; in list 1, where it is lent, the
+    /// other way round.
+    #[test]
+    fn references_by_lists() {
+        let ref0: [i8; 16] = core::array::from_fn(|block| (block % 4 / 2) as i8);
+        let ref1 = ref0.map(|index| 1 - index);
+        let one = Grids { inter: &[1; 16], nnz: &[0; 16], ref0: &ref0, mv0: &[0; 32], ..Grids::default() };
+        let two = Grids { ref1: &ref1, mv1: &[0; 32], ..one };
+        let middle = |grids: Grids, pictures0, pictures1| {
+            Blocks::new(1, Grids { pictures0, pictures1, ..grids }).flagless(0, 0, false)[8]
+        };
+        assert_eq!([middle(one, &[], &[]), middle(one, &[4, 9], &[]), middle(one, &[4, 4], &[])], [1, 1, 0]);
+        assert_eq!([middle(two, &[], &[]), middle(two, &[4, 9], &[9, 4]), middle(two, &[4, 9], &[4, 9])], [0, 1, 0]);
+        assert_eq!([middle(one, &[4], &[4]), middle(two, &[4], &[4])], [1, 0], "1 is past the table");
+        assert_eq!([middle(two, &[], &[1, 0]), middle(two, &[1, 0], &[])], [1; 2], "stored beside pictures");
     }
 }

@@ -2,8 +2,8 @@
 
 use crate::probed::{self, BlockInfo, MbBs, MbKind};
 
-/// The six 4x4 grids in the layouts of docs/RULES.md, "Sizes and layouts".
-#[derive(Clone, Copy)]
+/// The six 4x4 grids and the two tables in the layouts of docs/RULES.md, "Sizes and layouts".
+#[derive(Clone, Copy, Default)]
 pub struct Grids<'a> {
     pub inter: &'a [u8],
     pub nnz: &'a [u8],
@@ -11,6 +11,8 @@ pub struct Grids<'a> {
     pub mv0: &'a [i16],
     pub ref1: &'a [i8],
     pub mv1: &'a [i16],
+    pub pictures0: &'a [i32],
+    pub pictures1: &'a [i32],
 }
 
 /// The grids in the original's types: converted once, asked for any macroblock.
@@ -22,8 +24,8 @@ pub struct Blocks {
     mv0: Vec<(i16, i16)>,
     ref1: Vec<i8>,
     mv1: Vec<(i16, i16)>,
-    /// Identity lists: reference r is picture r, and -1 becomes the original's NO_REF.
-    pictures: Vec<i32>,
+    /// Its lists `poc0` and `poc1`.
+    pictures: [Vec<i32>; 2],
 }
 
 impl Blocks {
@@ -42,13 +44,13 @@ impl Blocks {
             mv0: pairs(g.mv0),
             ref1: g.ref1.to_vec(),
             mv1: pairs(g.mv1),
-            pictures: (0..128).collect(),
+            pictures: lists([g.pictures0, g.pictures1]),
         }
     }
 
     /// The same without lists: the original then takes a reference as a picture's number, -1 too.
     pub fn without_lists(self) -> Self {
-        Blocks { pictures: Vec::new(), ..self }
+        Blocks { pictures: [Vec::new(), Vec::new()], ..self }
     }
 
     /// Strengths by kind: 0 intra, 1 skip, 2 inter uniform, 3 inter.
@@ -79,10 +81,19 @@ impl Blocks {
             w4: self.width.wrapping_mul(4), // a panic must be the original's own
             t8x8: &[],
             bs: &[],
-            poc0: &self.pictures,
-            poc1: &self.pictures,
+            poc0: &self.pictures[0],
+            poc1: &self.pictures[1],
             kind: &[],
         }
+    }
+}
+
+/// The tables themselves, just one of them empty among them. Where both are, identity lists: reference r is
+/// picture r, and -1 becomes the original's NO_REF.
+fn lists(tables: [&[i32]; 2]) -> [Vec<i32>; 2] {
+    match tables {
+        [[], []] => [(0..128).collect(), (0..128).collect()],
+        lent => lent.map(<[i32]>::to_vec),
     }
 }
 

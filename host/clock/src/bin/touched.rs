@@ -93,9 +93,18 @@ fn main() {
     let idle = deepest(|| ());
     let show = |name: &str, bytes: usize| println!("{name:<30}{:>6}", bytes - idle);
     println!("bytes of stack touched, beyond a thread that calls nothing");
-    // inter blocks that use both lists, each with a motion of its own
+    // inter blocks that use both lists, each with a motion of its own; with tables most is read
     let mv: Vec<i16> = (0..128).collect();
-    let grids = Grids { inter: &[1; 64], nnz: &[0; 64], ref0: &[5; 64], mv0: &mv, ref1: &[6; 64], mv1: &mv };
+    let grids = Grids {
+        inter: &[1; 64],
+        nnz: &[0; 64],
+        ref0: &[5; 64],
+        mv0: &mv,
+        ref1: &[6; 64],
+        mv1: &mv,
+        pictures0: &[5; 8],
+        pictures1: &[6; 8],
+    };
     for (part, of) in [(Part::Frame, ""), (Part::BottomField, " of a field")] {
         let show = |name: &str, bytes: usize| show(&format!("{name}{of}"), bytes);
         filtering(&show, part);
@@ -157,8 +166,9 @@ fn strengths(show: &dyn Fn(&str, usize), part: Part, grids: Grids) {
 
 /// Without 8x8 flags: with them the original reads as much, and compares less.
 fn original_strengths(show: &dyn Fn(&str, usize), grids: Grids) {
-    let Grids { inter, nnz, ref0, mv0, ref1, mv1 } = grids;
-    let blocks = oracle::Blocks::new(SIZE.w, oracle::Grids { inter, nnz, ref0, mv0, ref1, mv1 });
+    let Grids { inter, nnz, ref0, mv0, ref1, mv1, pictures0, pictures1 } = grids;
+    let lent = oracle::Grids { inter, nnz, ref0, mv0, ref1, mv1, pictures0, pictures1 };
+    let blocks = oracle::Blocks::new(SIZE.w, lent);
     let (info, Place { x, y }, mut edges) = (&blocks.info(), LAST, Edges::default());
     show("the Rust's strengths by kind", deepest(|| _ = black_box(derive_mb_kind(info, x, y, MbKind::Inter))));
     show("the Rust's strengths by flags", deepest(|| derive_flags_into(info, x, y, [false; 2], false, &mut edges)));

@@ -13,18 +13,26 @@ pub struct Content {
     kinds: &'static [Kind],
     /// List 1 is lent too, and most blocks use both lists.
     two_lists: bool,
+    /// A picture for each index of a list, or none at all.
+    tables: [&'static [i32]; 2],
 }
 
 const KINDS: [Kind; 4] = [Kind::Intra, Kind::Skip, Kind::InterUniform, Kind::Inter];
 
-pub const CONTENTS: [Content; 7] = [
-    Content { name: "intra", kinds: &[Kind::Intra], two_lists: false },
-    Content { name: "skip", kinds: &[Kind::Skip], two_lists: false },
-    Content { name: "uniform", kinds: &[Kind::InterUniform], two_lists: false },
-    Content { name: "one list", kinds: &[Kind::Inter], two_lists: false },
-    Content { name: "two lists", kinds: &[Kind::Inter], two_lists: true },
-    Content { name: "mixture, one list", kinds: &KINDS, two_lists: false },
-    Content { name: "mixture, two lists", kinds: &KINDS, two_lists: true },
+const NO_TABLES: [&[i32]; 2] = [&[], &[]];
+/// Indices 0 to 2, which blocks use, name three pictures in each list, of which two are in both; 3 names one
+/// of them again.
+const TABLES: [&[i32]; 2] = [&[4, 6, 2, 4], &[6, 8, 4, 6]];
+
+pub const CONTENTS: [Content; 8] = [
+    Content { name: "intra", kinds: &[Kind::Intra], two_lists: false, tables: NO_TABLES },
+    Content { name: "skip", kinds: &[Kind::Skip], two_lists: false, tables: NO_TABLES },
+    Content { name: "uniform", kinds: &[Kind::InterUniform], two_lists: false, tables: NO_TABLES },
+    Content { name: "one list", kinds: &[Kind::Inter], two_lists: false, tables: NO_TABLES },
+    Content { name: "two lists", kinds: &[Kind::Inter], two_lists: true, tables: NO_TABLES },
+    Content { name: "mixture, one list", kinds: &KINDS, two_lists: false, tables: NO_TABLES },
+    Content { name: "mixture, two lists", kinds: &KINDS, two_lists: true, tables: NO_TABLES },
+    Content { name: "mixture, two tables", kinds: &KINDS, two_lists: true, tables: TABLES },
 ];
 
 /// The grids of a picture, and the kind of each macroblock: of those that are true of it the one that says
@@ -35,6 +43,7 @@ pub struct Grids {
     nnz: Vec<u8>,
     refs: [Vec<i8>; 2],
     mvs: [Vec<i16>; 2],
+    tables: [&'static [i32]; 2],
 }
 
 impl Grids {
@@ -55,18 +64,19 @@ impl Grids {
             nnz: blocks.iter().map(|block| block.count).collect(),
             refs: from_fn(|list| lists[list].iter().map(|block| block.lists[list].reference).collect()),
             mvs: from_fn(|list| lists[list].iter().flat_map(|block| block.lists[list].vector).collect()),
+            tables: content.tables,
         }
     }
 
     pub fn lent(&self) -> deblock::Grids<'_> {
-        let Grids { inter, nnz, refs: [ref0, ref1], mvs: [mv0, mv1], .. } = self;
-        deblock::Grids { inter, nnz, ref0, mv0, ref1, mv1 }
+        let Grids { inter, nnz, refs: [ref0, ref1], mvs: [mv0, mv1], tables: [pictures0, pictures1], .. } = self;
+        deblock::Grids { inter, nnz, ref0, mv0, ref1, mv1, pictures0, pictures1 }
     }
 
     /// The same in the original's types.
     pub fn converted(&self) -> oracle::Blocks {
-        let deblock::Grids { inter, nnz, ref0, mv0, ref1, mv1 } = self.lent();
-        oracle::Blocks::new(W, oracle::Grids { inter, nnz, ref0, mv0, ref1, mv1 })
+        let deblock::Grids { inter, nnz, ref0, mv0, ref1, mv1, pictures0, pictures1 } = self.lent();
+        oracle::Blocks::new(W, oracle::Grids { inter, nnz, ref0, mv0, ref1, mv1, pictures0, pictures1 })
     }
 }
 

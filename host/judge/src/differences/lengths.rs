@@ -2,8 +2,9 @@
 
 use super::rows::Rust::{CannotBeLent, Does, DoesInRelease};
 use super::rows::{
-    around_block_0, beside, flagless, frame, kind, row, rows, two, two_lists, visit, whole_chroma, whole_lists, with,
-    Row, ALL_0, EACH_ALONE, INNER_3, NOTHING, NO_FIELDS, NO_VISITS, PANICS,
+    around_block_0, beside, crossed_indices, flagless, frame, kind, row, rows, two, two_indices, two_lists,
+    unused_tables, visit, whole_chroma, whole_lists, with, Row, ALL_0, EACH_ALONE, INNER_3, NOTHING, NO_FIELDS,
+    NO_VISITS, PANICS,
 };
 use super::{edge, inter, intra, original, picture, strengths};
 use crate::request::{Call, Request};
@@ -272,6 +273,41 @@ pub const LENGTHS: &[Row] = &[
         }],
         Does(&[("as with vectors (0, 0): 1 between block 0 and its neighbours", |seen| {
             seen.as_with(|q| q.mv1.resize(32, 0)) && seen.own == Some(around_block_0(1))
+        })]),
+    ),
+    row(
+        5,
+        "index 0 in block 0 and 1 elsewhere, no list 1; list 0's table empty, list 1's 7, 7",
+        || with(two_indices(), |q| q.pictures1 = vec![7; 2].into()),
+        &[|q| q.pictures0.resize(0, 0)],
+        Does(&[("as with both empty: 1 between block 0 and its neighbours", |seen| {
+            seen.as_with(|q| q.pictures1.resize(0, 0)) && seen.own == Some(around_block_0(1))
+        })]),
+    ),
+    row(
+        5,
+        "of two lists indices 0 and 1 in block 0, 1 and 0 elsewhere; one table empty, the other 1, 0",
+        crossed_indices,
+        &[|q| q.pictures0.resize(0, 0), |q| q.pictures1.resize(0, 0)],
+        Does(&[(
+            "compares the numbers of one list with the pictures of the other, as with the table 0, 1 for the empty \
+             one: 1 between block 0 and its neighbours",
+            |seen| {
+                let whole = |q: &mut Request| {
+                    let empty = q.tables().into_iter().filter(|table| table.is_empty());
+                    empty.for_each(|table| *table = vec![0, 1].into());
+                };
+                seen.as_with(whole) && seen.own == Some(around_block_0(1))
+            },
+        )]),
+    ),
+    row(
+        5,
+        "references -1 in both lists, vectors (0, 0) in block 0; one table empty, the other 7",
+        unused_tables,
+        &[|q| q.pictures0.resize(0, 0), |q| q.pictures1.resize(0, 0)],
+        Does(&[("takes -1 as a picture in the list of the empty one: 1 between block 0 and its neighbours", |seen| {
+            seen.own == Some(around_block_0(1))
         })]),
     ),
 ];

@@ -1,9 +1,10 @@
 //! A row of the table by refusal number, and what its entries share: claims and requests.
 
 use super::{edge, inter, original, picture, strengths, Claim, Seen};
+use crate::original::lent;
 use crate::request::{Call, Request};
 use crate::table;
-use oracle::{Blocks, Grids};
+use oracle::Blocks;
 
 /// Inputs that are refused with the number `no`: each is `base`, which is taken, after one of `spoils`.
 pub struct Row {
@@ -107,6 +108,32 @@ pub fn no_references() -> Request {
     with(two_lists(), |q| [&mut q.ref0, &mut q.ref1].into_iter().for_each(|list| list.fill(-1)))
 }
 
+/// Index 0 in block 0 and 1 elsewhere, both picture 7; with no list 1 and no table for it.
+pub fn two_indices() -> Request {
+    with(flagless(), |q| {
+        q.ref0[1..].fill(1);
+        q.pictures0 = vec![7; 2].into();
+    })
+}
+
+/// Of two lists indices 0 and 1 in block 0 and 1 and 0 elsewhere, by two tables 1, 0: pictures 0 and 1
+/// everywhere.
+pub fn crossed_indices() -> Request {
+    with(two_lists(), |q| {
+        q.ref0[1..].fill(1);
+        q.ref1[0] = 1;
+        q.tables().into_iter().for_each(|table| *table = vec![1, 0].into());
+    })
+}
+
+/// Both lists and their tables there, no reference used, and in block 0 other vectors than elsewhere.
+pub fn unused_tables() -> Request {
+    with(no_references(), |q| {
+        [&mut q.mv0, &mut q.mv1].into_iter().for_each(|list| list[..2].fill(0));
+        q.tables().into_iter().for_each(|table| *table = vec![7].into());
+    })
+}
+
 /// Cuts or fills the lists to 16 blocks; a missing last one gets this reference and this motion.
 pub fn whole_lists(q: &mut Request, reference: i8, motion: i16) {
     [&mut q.ref0, &mut q.ref1].into_iter().for_each(|list| list.resize(16, reference));
@@ -130,8 +157,7 @@ pub fn around_block_0(s: u8) -> [u8; 32] {
 
 /// The original's flagless strengths without `poc0` and `poc1`.
 pub fn unlisted(q: &Request) -> [u8; 32] {
-    let grids = Grids { inter: &q.inter, nnz: &q.nnz, ref0: &q.ref0, mv0: &q.mv0, ref1: &q.ref1, mv1: &q.mv1 };
-    Blocks::new(q.w, grids).without_lists().flagless(q.x, q.y, false)
+    Blocks::new(q.w, lent(q)).without_lists().flagless(q.x, q.y, false)
 }
 
 /// Every macroblock of a picture of equal ones is as the original leaves a lone one.

@@ -1,10 +1,11 @@
 //! The differences that are no refusals, from the original or from the standard, each with what can be run of
 //! it.
 
+use super::rows::{around_block_0, unlisted};
 use super::{edge, inter, intra, original, picture, strengths};
 use crate::request::{Call, Request, STRENGTH_CALLS};
 use crate::subject::{Archive, Subject};
-use oracle::{Blocks, Grids, Offsets, Planes, Stored};
+use oracle::{Offsets, Planes, Stored};
 
 /// A row, and whether what it says of the archive and of the original is so. What it says of the standard, of
 /// the original's accelerated build and of the decoder around it cannot be run here.
@@ -95,12 +96,21 @@ pub const STATED: &[Stated] = &[
         holds: pre_ignores_the_flag,
     },
     Stated {
+        what: "one reference table a list for a picture",
+        input: "two macroblocks of two slices, index 0 of list 0 in both, which is picture 7 in the first slice and \
+                9 in the second",
+        here: "by the table 7 both name one picture: 0 on the edge between them, as the Rust; a caller who stores 7 \
+               and 9 and lends no tables gets what the standard does",
+        elsewhere: "each slice has lists of its own in the standard: 1 on the edge between them",
+        holds: one_table_a_list,
+    },
+    Stated {
         what: "`NO_REF`",
         input: "a lone inter macroblock with references -1, vector (4, 4) in block 0 and (0, 0) elsewhere",
-        here: "-1 is no reference: all strengths are 0",
-        elsewhere: "the Rust maps references through `poc0` and `poc1`; runs against it pass identity lists, so that \
-                    -1 becomes `NO_REF` (`i32::MIN`), and it answers the same; without lists it takes -1 as a \
-                    picture, and 1 stands between block 0 and its neighbours",
+        here: "-1 is no reference, with tables and without: all strengths are 0",
+        elsewhere: "the Rust maps references through `poc0` and `poc1`. Runs against it lend our tables as these, and \
+                    where both are empty identity lists, so that -1 becomes `NO_REF` (`i32::MIN`), and it answers \
+                    the same; without lists it takes -1 as a picture, and 1 stands between block 0 and its neighbours",
         holds: no_ref,
     },
     Stated {
@@ -307,10 +317,18 @@ fn no_ref(archive: &Archive) -> bool {
     let mut q = inter(Call::Flagless, 1, 1);
     q.ref0.fill(-1);
     q.mv0[..2].fill(4);
-    let grids = Grids { inter: &q.inter, nnz: &q.nnz, ref0: &q.ref0, mv0: &q.mv0, ref1: &[], mv1: &[] };
-    let unlisted = Blocks::new(1, grids).without_lists().flagless(0, 0, false);
-    let around = std::array::from_fn(|i| u8::from(i == 4 || i == 20));
-    own(archive, &q) == Some([0; 32]) && unlisted == around
+    let lent = |table: &[i32]| own(archive, &Request { pictures0: table.to_vec().into(), ..q.clone() });
+    [lent(&[]), lent(&[7])] == [Some([0; 32]); 2] && unlisted(&q) == around_block_0(1)
+}
+
+fn one_table_a_list(archive: &Archive) -> bool {
+    let beside = |references: [i8; 2], table: &[i32]| {
+        let mut q = inter(Call::Flagless, 2, 1);
+        q.ref0.iter_mut().enumerate().for_each(|(block, own)| *own = references[block % 8 / 4]);
+        q.pictures0 = table.to_vec().into();
+        own(archive, &q)
+    };
+    [beside([0; 2], &[7]), beside([7, 9], &[])] == [Some([0; 32]), Some(edge(0, 1))]
 }
 
 fn sizes(archive: &Archive) -> bool {

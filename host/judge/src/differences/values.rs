@@ -1,10 +1,10 @@
-//! The smallest inputs of refusals 6 to 14, a value that is read, and of 19, and what the original does with
-//! them.
+//! The smallest inputs of refusals 6 to 14, a value that is read, and of 19 and 22, and what the original
+//! does with them.
 
 use super::rows::Rust::{CannotBeLent, Does, DoesInRelease};
 use super::rows::{
-    around_block_0, below, beside, flagless, flags, frame, kind, neighbours, no_references, row, turned, two, unlisted,
-    visit, with, Row, ALL_0, INNER_3, NO_FIELDS, NO_VISITS,
+    around_block_0, below, beside, flagless, flags, frame, kind, neighbours, no_references, row, turned, two,
+    two_indices, unlisted, visit, with, Row, ALL_0, INNER_3, NO_FIELDS, NO_VISITS,
 };
 use super::{edge, inter, intra, original, Seen};
 use crate::request::Call;
@@ -302,4 +302,37 @@ pub const VALUES: &[Row] = &[
         NO_VISITS,
     ),
     row(19, "part 3, which is neither the frame nor one of its fields", frame, &[|q| q.part = 3], NO_FIELDS),
+    row(
+        22,
+        "index 0 in block 0 and 1 elsewhere; in the table -1, 65,536 or 2^31 - 1, then 7",
+        two_indices,
+        &[|q| q.pictures0[0] = -1, |q| q.pictures0[0] = 65_536, |q| q.pictures0[0] = i32::MAX],
+        Does(&[("a picture as any other, as 65,535: 1 between block 0 and its neighbours", |seen| {
+            seen.as_with(|q| q.pictures0[0] = 65_535) && seen.own == Some(around_block_0(1))
+        })]),
+    ),
+    row(
+        22,
+        "index 0, the vector (4, 4) in block 0; in the table -2^31",
+        || with(flagless(), |q| (q.pictures0, q.mv0[0], q.mv0[1]) = (vec![7].into(), 4, 4)),
+        &[|q| q.pictures0[0] = i32::MIN],
+        Does(&[
+            ALL_0,
+            ("its `NO_REF`, as with -1 for the index", |seen| {
+                seen.as_with(|q| {
+                    q.ref0.fill(-1);
+                    q.pictures0[0] = 7;
+                }) && !seen.as_with(|q| q.pictures0[0] = 7)
+            }),
+        ]),
+    ),
+    row(
+        22,
+        "index 0; in the table 7, then 65,536, or 65,536 in that of list 1, which is not lent",
+        || with(flagless(), |q| q.pictures0 = vec![7].into()),
+        &[|q| q.pictures0 = vec![7, 65_536].into(), |q| q.pictures1 = vec![65_536].into()],
+        Does(&[("does not look at it", |seen| {
+            seen.as_with(|q| (q.pictures0, q.pictures1) = (vec![7].into(), Vec::new().into()))
+        })]),
+    ),
 ];

@@ -169,6 +169,82 @@ fn each_check_of_a_strength_call() {
     }
 }
 
+/// The tables with the references of all blocks in each list; list 1 is lent where it has some.
+fn listed(call: Call, tables: [&[i32]; 2], refs: [Option<i8>; 2]) -> Request {
+    let mut q = strengths(call);
+    q.tables().into_iter().zip(tables).for_each(|(own, table)| *own = table.to_vec().into());
+    q.ref0.fill(refs[0].expect("list 0 is lent"));
+    if let Some(reference) = refs[1] {
+        (q.ref1, q.mv1) = (vec![reference; 64].into(), vec![0; 128].into());
+    }
+    q
+}
+
+#[test]
+fn just_one_table() {
+    for call in STRENGTH_CALLS {
+        let lent = |tables, refs| answer(&listed(call, tables, refs));
+        let sets: [[&[i32]; 2]; 4] = [[&[], &[]], [&[7], &[]], [&[], &[7]], [&[7], &[7, 9]]];
+        assert_eq!(sets.map(|tables| lent(tables, [Some(0), None])), [0, 0, 5, 0]);
+        assert_eq!(sets.map(|tables| lent(tables, [Some(0), Some(-1)])), [0, 5, 5, 0]);
+    }
+}
+
+#[test]
+fn picture_numbers() {
+    for call in STRENGTH_CALLS {
+        for refs in [[Some(0), None], [Some(-1), None], [Some(0), Some(0)], [Some(5), Some(-1)]] {
+            let entry = |value| {
+                let long: Vec<i32> = (0..300).map(|i| if i == 299 { value } else { 7 }).collect();
+                let tables = [[&[value][..], &[7]], [&[7], &[7, value]], [&long, &[7]]];
+                let [first, second, last] = tables.map(|tables| answer(&listed(call, tables, refs)));
+                assert!(first == second && first == last);
+                first
+            };
+            assert_eq!([0, 65_535, -1, 65_536, i32::MIN, i32::MAX].map(entry), [0, 0, 22, 22, 22, 22]);
+        }
+        let mut q = listed(call, [&[7], &[65_536]], [Some(0), None]);
+        q.inter[63] = 0;
+        assert_eq!(answer(&q), 22, "before 11");
+        q.ref0[63] = -2;
+        assert_eq!(answer(&q), 10, "after 10");
+    }
+    for call in FILTER_CALLS {
+        assert_eq!(after(visit(), |q| (q.call, q.pictures1) = (call, vec![-1].into())), 0, "it takes none");
+    }
+}
+
+/// One block with another index: of the same picture, of another one, past the table; and with a vector.
+#[test]
+fn uniform_by_pictures() {
+    let kind = |tables, own, other, vector| {
+        [1, 2].map(|kind| {
+            after(listed(Call::Kind, tables, [Some(own), None]), |q| {
+                (q.kind, q.ref0[63], q.mv0[127]) = (kind, other, vector);
+            })
+        })
+    };
+    let table: [&[i32]; 2] = [&[7, 9, 7], &[]];
+    assert_eq!([kind(table, 0, 2, 0), kind(table, 0, 1, 0), kind([&[], &[]], 0, 2, 0)], [[0; 2], [12; 2], [12; 2]]);
+    assert_eq!([kind(table, -1, 3, 0), kind(table, 127, 3, 0), kind(table, 0, 3, 0)], [[0; 2], [0; 2], [12; 2]]);
+    assert_eq!([kind(table, 0, 2, 1), kind(table, -1, 3, 1)], [[12; 2]; 2], "unused vectors count");
+    let second = |other| {
+        after(listed(Call::Kind, [&[7], &[9, 9, 7]], [Some(0), Some(0)]), |q| (q.kind, q.ref1[63]) = (1, other))
+    };
+    assert_eq!([1, 2, 3, -1].map(second), [0, 12, 12, 12]);
+}
+
+/// Of (1, 1) in 2 by 2, where the other macroblocks' blocks have other references.
+#[test]
+fn entries() {
+    let mut q = listed(Call::Kind, [&[7, 9], &[7]], [Some(1), None]);
+    q.ref0[35] = 5;
+    q.ref0[28] = -1;
+    q.ref0[34] = 100;
+    let [first, second] = entries_read(&q);
+    assert_eq!((first.iter().max(), first.iter().min(), second), (Some(&5), Some(&1), Vec::new()));
+}
+
 /// Of (1, 1) in 2 by 2: 16 of its own, then four of each neighbour, or eight where the flag is set.
 #[test]
 fn counts() {

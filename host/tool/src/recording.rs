@@ -25,12 +25,14 @@ pub struct BlockGrids {
     mv0: Vec<i16>,
     ref1: Vec<i8>,
     mv1: Vec<i16>,
+    pictures0: Vec<i32>,
+    pictures1: Vec<i32>,
 }
 
 impl BlockGrids {
     pub fn lent(&self) -> Grids<'_> {
-        let BlockGrids { inter, nnz, ref0, mv0, ref1, mv1 } = self;
-        Grids { inter, nnz, ref0, mv0, ref1, mv1 }
+        let BlockGrids { inter, nnz, ref0, mv0, ref1, mv1, pictures0, pictures1 } = self;
+        Grids { inter, nnz, ref0, mv0, ref1, mv1, pictures0, pictures1 }
     }
 }
 
@@ -74,10 +76,11 @@ impl Recording {
         let Header { size, flags, chroma_u, chroma_v, .. } = *header;
         let n = size.macroblocks();
         let offsets = Offsets { a: offset(s, "offset A")?, b: offset(s, "offset B")?, chroma_u, chroma_v };
+        let tables = tables(s, flags)?;
         let qps = s.checked(n, "the QPs", |b| b <= 51)?;
         let t8s = s.checked(if flags & T8 != 0 { n } else { 0 }, "the 8x8 flags", |b| b <= 1)?;
         if !header.no_grids() {
-            self.grids.push(block_grids(s, 16 * n, flags)?);
+            self.grids.push(block_grids(s, 16 * n, flags, tables)?);
         }
         let strengths = s.checked(32 * n, "the strengths", |b| b <= 4)?;
         self.settings.push(Settings { part, offsets, strengths, qps, t8s });
@@ -113,8 +116,8 @@ fn header(s: &mut Source) -> Result<Header, Trouble> {
     let beyond = [
         (depth != 8, 8, "10-bit samples"),
         (flags & SLICES != 0, 10, "slices"),
-        (flags & TABLES != 0, 10, "reference tables"),
         (header.no_grids() && flags & LIST_1 != 0, 10, "grids of list 1 but no others"),
+        (header.no_grids() && flags & TABLES != 0, 10, "reference tables but no grids"),
     ];
     if let Some((_, at, what)) = beyond.iter().find(|(has, ..)| *has) {
         return Err(s.trouble(start + at, format!("the recording has {what}, which this tool does not take")));
@@ -132,7 +135,23 @@ fn planes(s: &mut Source, header: &Header, what: &str) -> Result<Picture, Troubl
     Ok(Picture::from_planes(header.size, &bytes))
 }
 
-fn block_grids(s: &mut Source, blocks: usize, flags: u8) -> Result<BlockGrids, Trouble> {
+/// The pictures that the indices of each list name; without tables the references are numbers of pictures.
+fn tables(s: &mut Source, flags: u8) -> Result<[Vec<i32>; 2], Trouble> {
+    if flags & TABLES == 0 {
+        return Ok([Vec::new(), Vec::new()]);
+    }
+    Ok([table(s, "list 0's table")?, table(s, "list 1's table")?])
+}
+
+/// A count, and so many numbers.
+fn table(s: &mut Source, what: &str) -> Result<Vec<i32>, Trouble> {
+    let count = s.u16(&format!("the length of {what}"))?;
+    let bytes = s.take(2 * count, what)?;
+    Ok(bytes.chunks_exact(2).map(|b| u16::from_le_bytes([b[0], b[1]]).into()).collect())
+}
+
+fn block_grids(s: &mut Source, blocks: usize, flags: u8, tables: [Vec<i32>; 2]) -> Result<BlockGrids, Trouble> {
+    let [pictures0, pictures1] = tables;
     let list_1 = if flags & LIST_1 != 0 { blocks } else { 0 };
     Ok(BlockGrids {
         inter: s.checked(blocks, "the inter bytes", |b| b <= 1)?,
@@ -141,6 +160,8 @@ fn block_grids(s: &mut Source, blocks: usize, flags: u8) -> Result<BlockGrids, T
         mv0: vectors(s, blocks, "the motion of list 0")?,
         ref1: references(s, list_1, "the references of list 1")?,
         mv1: vectors(s, list_1, "the motion of list 1")?,
+        pictures0,
+        pictures1,
     })
 }
 

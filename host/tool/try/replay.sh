@@ -2,7 +2,7 @@
 
 pictures=$(($(find "$data" -name '*.dbv' | wc -l) + 120)) # 120 in original.dbvs
 expect 0 replay "$data"
-says "The old rule, down the columns, gives other planes than the recorder's in 57 of 178 pictures."
+says "The old rule, down the columns, gives other planes than the recorder's in 61 of 185 pictures."
 says "Pictures: $pictures equal, 0 different, 0 incomplete. Files not read: 0."
 expect 0 replay "$data/original.dbvs"
 says "original.dbvs, picture 3: "
@@ -10,7 +10,8 @@ says "macroblocks, no grids: equal"
 says "Pictures: 120 equal, 0 different"
 expect 0 replay "$good"
 says "random orders, seeds 0 to 99: planes as the recorder's in 100 of 100"
-for example in ../target/example.dbv ../target/example-two-offsets.dbv; do # examples/record.c writes them
+for example in ../target/example.dbv ../target/example-two-offsets.dbv ../target/example-tables.dbv; do
+    # examples/record.c writes them
     [ ! -e "$example" ] || expect 0 replay "$example"
 done
 expect 1 replay "$good" "$data/plane.bad"

@@ -86,19 +86,56 @@ fn where_the_chroma_offsets_differ_there_are_grids() {
     }
 }
 
+/// The same recording of a frame with list 1, every byte of it 3; its flags are given.
+fn with_list_1(mut recording: Vec<u8>, flags: u8) -> Vec<u8> {
+    let strengths = recording.len() - 32;
+    recording.splice(strengths..strengths, [3; 16 * 5]);
+    changed(recording, 10, flags)
+}
+
 /// With flag 16 too, which beside equal offsets would leave list 0 out and be refused.
 #[test]
 fn where_the_chroma_offsets_differ_there_may_be_list_1() {
-    let mut b = changed(two_offsets(good()), 10, 17);
-    let strengths = b.len() - 32;
-    b.splice(strengths..strengths, [3; 16 * 5]);
-    let r = parse(&b).expect("a good file");
+    let r = parse(&with_list_1(two_offsets(good()), 17)).expect("a good file");
     assert_eq!((r.grids[0].ref1.len(), r.grids[0].ref1[15], r.grids[0].mv1[31]), (16, 3, 0x0303));
+}
+
+/// The same recording with tables: after the offsets of each picture 3 numbers for list 0, the first of them
+/// 1 in the top field and 2 in the bottom field, the last one 65,535, and none for list 1.
+fn with_tables(mut recording: Vec<u8>, pictures: usize) -> Vec<u8> {
+    for picture in (0..pictures).rev() {
+        let qps = 14 + 768 * pictures + 2 + 147 * picture;
+        recording.splice(qps..qps, [3, 0, 1 + picture as u8, 0, 0, 1, 0xFF, 0xFF, 0, 0]);
+    }
+    changed(recording, 10, 8)
+}
+
+fn lent_tables(recording: &[u8]) -> Vec<(Vec<i32>, Vec<i32>)> {
+    let r = parse(recording).expect("a good file");
+    assert!(r.settings.iter().all(|s| (s.offsets.b, s.qps[0]) == (-2, 30)), "what stands beside the tables");
+    r.grids.iter().map(|g| g.lent()).map(|g| (g.pictures0.to_vec(), g.pictures1.to_vec())).collect()
+}
+
+#[test]
+fn tables_stand_between_the_offsets_and_the_qps() {
+    let list_0 = |first: i32| (vec![first, 256, 65_535], vec![]);
+    assert_eq!(lent_tables(&good()), [(vec![], vec![])]);
+    assert_eq!(lent_tables(&with_tables(good(), 1)), [list_0(1)]);
+    assert_eq!(lent_tables(&with_tables(fields(), 2)), [list_0(1), list_0(2)]);
+}
+
+#[test]
+fn list_1_has_a_table_of_its_own() {
+    let mut b = with_list_1(with_tables(good(), 1), 9);
+    let list_1 = 14 + 768 + 2 + 8;
+    b.splice(list_1..list_1 + 2, [2, 0, 7, 0, 9, 0]);
+    assert_eq!(lent_tables(&b), [(vec![1, 256, 65_535], vec![7, 9])]);
 }
 
 #[test]
 fn every_cut_is_noticed() {
-    for whole in [good(), fields(), changed(two_offsets(good()), 10, 16)] {
+    let flag_16 = changed(two_offsets(good()), 10, 16);
+    for whole in [good(), fields(), flag_16, with_tables(good(), 1), with_tables(fields(), 2)] {
         for end in 0..whole.len() {
             let what = parse(&whole[..end]).err().unwrap_or_else(|| panic!("cut at {end} was taken"));
             assert!(what.starts_with("x.dbv: at byte "), "{what}");
@@ -133,8 +170,8 @@ fn damage_is_named_with_its_place() {
 fn what_the_tool_does_not_take_is_named() {
     assert!(damaged(8, 10).contains("at byte 8: the recording has 10-bit samples"));
     assert!(damaged(10, 4).contains("at byte 10: the recording has slices"));
-    assert!(damaged(10, 8).contains("at byte 10: the recording has reference tables"));
     assert!(damaged(10, 17).contains("at byte 10: the recording has grids of list 1 but no others"));
+    assert!(damaged(10, 24).contains("at byte 10: the recording has reference tables but no grids"));
 }
 
 /// Where a field is cut or damaged it is named; so is a file of one picture where there should be two.

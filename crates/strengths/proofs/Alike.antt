@@ -7,10 +7,11 @@ use mathlib.Core.List.{List}
 use Prim.Native.Nat.{ℕ, _+_, _-_, _*_, _<_}
 use native.Mathlib.Decide.{ℕ-discrete}
 use native.Mathlib.Omega.{arith}
-use borrow.Author.Tests.{ltb-true, ne-eqb}
-use lib.Dec.{eqb, ltb, lit≤}
+use borrow.Author.Tests.{ne-eqb}
+use lib.Dec.{eqb, ltb, ltb→lt, lit≤}
 use lib.ListN.{length, getD}
 use Rattle.laws.specs.Refusal.{refusal}
+use Rattle.laws.proofs.Bools.{guarded}
 use Rattle.laws.proofs.Some.{some-same, every-same}
 use Rattle.motion.specs.Grids.{Grids, counted, blkAt}
 use Rattle.motion.specs.Motion.{differ, interStrength, sameMotion}
@@ -36,11 +37,7 @@ use Rattle.strengths.proofs.OwnBlocks.{q-own, eight-own, eight-from}
 
 -- a test that is made only where there is a neighbour
 pub where-there : (n : ℕ) {b c : Bool} → (0 < n → b ≡ c) → (ltb 0 n && b) ≡ (ltb 0 n && c)
-where-there n {b} {c} h = go (ltb 0 n) refl
-  where
-    go : (t : Bool) → ltb 0 n ≡ t → (t && b) ≡ (t && c)
-    go true e = h (ltb-true 0 n e)
-    go false e = refl
+where-there n h = guarded (ltb 0 n) (λ t. h (ltb→lt 0 n t))
 
 -- the first own block, by the name that the checks have
 pub first-own : (w x y : ℕ) → Beside w x y (origin w x y)

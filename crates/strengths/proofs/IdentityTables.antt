@@ -27,7 +27,7 @@ use Rattle.strengths.proofs.Alike.{SameCalls, equal-blocks, alike-calls
 use Rattle.strengths.proofs.SameReads.{not-read}
 use Rattle.strengths.proofs.Tables.{withTables, checksBy, badGrids, empty-good}
 
--- no longer than check 22 allows
+-- index i names picture i, as far as the table goes, which is no further than check 22 allows
 pub record Itself (t : List ℤ) : Type 0 where
   pub each : (i : ℕ) → i < length t → getD t i none ≡ pos i
   pub numbers : length t ≤ 65536

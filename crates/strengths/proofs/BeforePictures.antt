@@ -16,7 +16,7 @@ use Rattle.sizes.specs.Sizes.{badSize, outsideOf}
 use Rattle.sizes.specs.declared.Size.{Size}
 use Rattle.strengths.specs.Blocks.{origin}
 use Rattle.strengths.specs.Calls.{answerOf, DeriveOutcome, KindOutcome, FlagsOutcome}
-use Rattle.strengths.specs.Checks.{badByMacroblock, badInter, badFlags, badRefs, oneTable, badTable, disagree}
+use Rattle.strengths.specs.Checks.{badGrids, badByMacroblock, badInter, badFlags, badRefs, oneTable, badTable, disagree}
 use Rattle.strengths.specs.Kinds.{everyOwn, uniform, flat, isKind}
 use Rattle.strengths.specs.Reads.{storedAt}
 use Rattle.strengths.specs.Strength.{qBlock, pBlock, border, skipped, modeOf, intraStrength, coded, between, strengthAt, written}
@@ -25,7 +25,7 @@ use Rattle.strengths.specs.declared.kinds.MbKind.{MbKind}
 use Rattle.strengths.specs.declared.kinds.MbKind.the-variants.{Intra, Skip, InterUniform, Inter}
 use Rattle.strengths.specs.declared.kinds.Mode.{Mode}
 use Rattle.strengths.specs.declared.kinds.Request.{Request}
-use Rattle.strengths.proofs.Tables.{checksBy, badGrids, empty-good}
+use Rattle.strengths.proofs.Tables.{checksBy, empty-good}
 
 -- ---- block i, each list with the reference that is stored
 abbrev pub storedBlock : Grids → ℕ → Blk
@@ -58,7 +58,7 @@ storedAnswer size x y t8s g untrue n =
     ((1, badSize size)
     ∷ (2, outsideOf size x y)
     ∷ (4, badByMacroblock (size .w * size .h) n (length t8s))
-    ∷ (5, badGrids size g)
+    ∷ (5, badGrids (16 * (size .w * size .h)) g)
     ∷ (7, badInter g (size .w) x y || badFlags t8s (size .w) x y)
     ∷ (10, badRefs g (size .w) x y)
     ∷ (11, disagree (g .inter) (size .w) x y)
@@ -96,7 +96,7 @@ module _ (g : Grids) (none0 : g .pictures0 ≡ []) (none1 : g .pictures1 ≡ [])
     answer-before : answerOf size x y t8s g untrue (length s) ≡ storedAnswer size x y t8s g untrue (length s)
     unfolding answerOf
     answer-before =
-        let five = (λ j. badGrids size g || oneTable (length (g .ref1)) (length (none0 j)) (length (none1 j))) ∙ or-false (badGrids size g) in
+        let five = (λ j. badGrids (16 * (size .w * size .h)) g || oneTable (length (g .ref1)) (length (none0 j)) (length (none1 j))) ∙ or-false (badGrids (16 * (size .w * size .h)) g) in
         let pictures = (λ j. badTable (none0 j) || badTable (none1 j)) ∙ λ j. empty-good j || empty-good j in
         λ j. refusal (checksBy size x y t8s g (length s) (five j) (badRefs g (size .w) x y) (pictures j) ++ ((12, untrue) ∷ []))
 

@@ -17,7 +17,7 @@ use Rattle.motion.specs.Inner.{Optional, Hold}
 use Rattle.strengths.specs.Blocks.{ownBlock}
 use Rattle.strengths.specs.Inner.{InGrids}
 use Rattle.strengths.specs.Calls.{lengthChecks}
-use Rattle.strengths.specs.Checks.{badLengths}
+use Rattle.strengths.specs.Checks.{badGrids}
 use Rattle.sizes.specs.Inner.{InPicture}
 use Rattle.sizes.specs.declared.Size.{Size}
 use Rattle.sizes.proofs.Sized.{Sized, sized}
@@ -38,7 +38,7 @@ pub grids-fit : (size : Size) (x y : ℕ) (t8s : List ℕ) (g : Grids) (n : ℕ)
 grids-fit size x y t8s g n e =
     let o = or-false (leb (size .w) x) (leb (size .h) y) (passes 2 (lengthChecks size x y t8s g n) tt e) in
     let f = or-false _ _ (passes 4 (lengthChecks size x y t8s g n) tt e) in
-    let l = or-false (badLengths (16 * (size .w * size .h)) (length (g .inter)) (length (g .nnz)) (length (g .ref0)) (length (g .mv0)) (length (g .ref1)) (length (g .mv1))) _ (passes 5 (lengthChecks size x y t8s g n) tt e) in
+    let l = or-false (badGrids (16 * (size .w * size .h)) g) _ (passes 5 (lengthChecks size x y t8s g n) tt e) in
     let a = or-false _ _ (l .0) in
     let b = or-false _ _ (a .0) in
     let c = or-false _ _ (b .0) in

@@ -3,7 +3,7 @@
 use mathlib.Core.Path.{_≡_, refl, sym, ap, _∙_}
 use mathlib.Core.Bool.{Bool, true, false, _||_, true≢false}
 use mathlib.Core.List.{List, []}
-use Prim.Native.Nat.{ℕ, zero, suc, _<_, _≤_, zero-le}
+use Prim.Native.Nat.{ℕ, zero, suc, _*_, _<_, _≤_, zero-le}
 use native.Mathlib.Omega.{arith}
 use borrow.Author.Tests.{ltb-true, lt-ltb, le-ltb}
 use lib.Dec.{eqb}
@@ -21,11 +21,11 @@ use Rattle.motion.proofs.Pictures.{none-named, by-table}
 use Rattle.sizes.specs.declared.Size.{Size}
 use Rattle.strengths.specs.Blocks.{someRead}
 use Rattle.strengths.specs.Calls.{deriveChecks}
-use Rattle.strengths.specs.Checks.{oneTable, belowNone, badRefs, notPicture, badTable}
+use Rattle.strengths.specs.Checks.{badGrids, oneTable, belowNone, badRefs, notPicture, badTable}
 use Rattle.strengths.specs.Reads.{Beside}
 use Rattle.strengths.proofs.Alike.{SameCalls, equal-blocks, alike-calls}
 use Rattle.strengths.proofs.SameReads.{not-read}
-use Rattle.strengths.proofs.Tables.{withTables, checksBy, badGrids, empty-good}
+use Rattle.strengths.proofs.Tables.{withTables, checksBy, empty-good}
 
 -- index i names picture i, as far as the table goes, which is no further than check 22 allows
 pub record Itself (t : List ℤ) : Type 0 where
@@ -59,7 +59,7 @@ module _ (size : Size) (field : Bool) (x y : ℕ) (t8s : List ℕ) (g : Grids) (
   checks-itself : refusal (deriveChecks size x y t8s plain (length s)) ≡ refusal (deriveChecks size x y t8s (withTables g p q) (length s))
   checks-itself =
       λ i. refusal (checksBy size x y t8s g (length s)
-      (badGrids size g || sym fit i)
+      (badGrids (16 * (size .w * size .h)) g || sym fit i)
       (badRefs g (size .w) x y)
       ((empty-good ∙ sym (itself-good p own0)) i || (empty-good ∙ sym (itself-good q own1)) i))
 

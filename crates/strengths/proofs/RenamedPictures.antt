@@ -26,10 +26,10 @@ use Rattle.motion.proofs.Renamed.{renamedBlock, OneToOne, differ-renamed, same-
 use Rattle.sizes.specs.declared.Size.{Size}
 use Rattle.strengths.specs.Blocks.{someRead}
 use Rattle.strengths.specs.Calls.{deriveChecks}
-use Rattle.strengths.specs.Checks.{badLengths, oneTable, belowNone, badRefs, notPicture, badTable}
+use Rattle.strengths.specs.Checks.{badGrids, badLengths, oneTable, belowNone, badRefs, notPicture, badTable}
 use Rattle.strengths.proofs.Alike.{Alike, alike-blocks, equal-blocks, SameCalls, alike-calls}
 use Rattle.strengths.proofs.SameReads.{read-same}
-use Rattle.strengths.proofs.Tables.{withTables, checksBy, badGrids, tablesFit, passed-tables, neither, unlent}
+use Rattle.strengths.proofs.Tables.{withTables, checksBy, tablesFit, passed-tables, neither, unlent}
 
 -- ---- pictures renamed by f, one to one. That 0 to 65,535 stay such numbers, and others do not become any,
 -- is asked because check 22 asks for them
@@ -120,7 +120,7 @@ module _ (f : ℕ → ℕ) (one : Renaming f) where
     checks-renamed =
         sym
         (λ i. refusal (checksBy size x y t8s g (length s)
-        (badGrids size g || oneTable (length (g .ref1)) (length-map (g .pictures0) ρ i) (length-map (g .pictures1) ρ i))
+        (badGrids (16 * (size .w * size .h)) g || oneTable (length (g .ref1)) (length-map (g .pictures0) ρ i) (length-map (g .pictures1) ρ i))
         (badRefs g (size .w) x y)
         (table-renamed (g .pictures0) i || table-renamed (g .pictures1) i)))
 

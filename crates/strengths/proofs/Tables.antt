@@ -17,7 +17,7 @@ use Rattle.motion.specs.Grids.{Grids, grids}
 use Rattle.sizes.specs.Sizes.{badSize, outsideOf}
 use Rattle.sizes.specs.declared.Size.{Size}
 use Rattle.strengths.specs.Calls.{deriveChecks}
-use Rattle.strengths.specs.Checks.{badByMacroblock, badLengths, oneTable, badInter, badFlags, badTable, disagree}
+use Rattle.strengths.specs.Checks.{badByMacroblock, badGrids, oneTable, badInter, badFlags, badTable, disagree}
 
 -- the same grids with these tables
 abbrev pub withTables : Grids → List ℤ → List ℤ → Grids
@@ -36,16 +36,12 @@ checksBy size x y t8s g n five ten pictures =
     ∷ (11, disagree (g .inter) (size .w) x y)
     ∷ []
 
--- check 5, of the six grids and of the tables
-abbrev pub badGrids : Size → Grids → Bool
-badGrids size g =
-    badLengths (16 * (size .w * size .h)) (length (g .inter)) (length (g .nnz)) (length (g .ref0)) (length (g .mv0)) (length (g .ref1)) (length (g .mv1))
-
+-- check 5, of the tables
 abbrev pub tablesFit : Grids → Type 0
 tablesFit g = oneTable (length (g .ref1)) (length (g .pictures0)) (length (g .pictures1)) ≡ false
 
 pub passed-tables : (size : Size) (x y : ℕ) (t8s : List ℕ) (g : Grids) (n : ℕ) → refusal (deriveChecks size x y t8s g n) ≡ 0 → tablesFit g
-passed-tables size x y t8s g n e = or-false (badGrids size g) _ (passes 5 (deriveChecks size x y t8s g n) tt e) .1
+passed-tables size x y t8s g n e = or-false (badGrids (16 * (size .w * size .h)) g) _ (passes 5 (deriveChecks size x y t8s g n) tt e) .1
 
 -- both are empty, or list 0's is not, and then list 1's is not or list 1 is not lent
 module _ (r p q : ℕ) (e : oneTable r p q ≡ false) where

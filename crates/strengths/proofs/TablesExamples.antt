@@ -1,11 +1,16 @@
 -- Worked examples of tables, by computing; they read with docs/RULES.md, "Strengths" and "Answers". One
 -- inter macroblock without counts and with vectors 0, whose first block alone has other references: bytes 4
 -- and 20 stand between it and the blocks to its right and below it. Assumes nothing.
-use mathlib.Core.Path.{_≡_, refl}
-use mathlib.Core.Bool.{true, false}
+use mathlib.Core.Path.{_≡_, refl, sym, ap, _∙_}
+use mathlib.Core.Bool.{true, false, cond}
 use mathlib.Core.List.{List, [], _∷_, map, replicate}
-use Prim.Native.Nat.{ℕ}
+use Prim.Native.Nat.{ℕ, zero, suc, _<_}
+use native.Mathlib.Decide.{ℕ-discrete}
+use native.Mathlib.Omega.{arith}
+use borrow.Author.Tests.{ne-eqb}
+use lib.Dec.{eqb, ltb, lit≤}
 use lib.IntN.{ℤ, pos, negsuc}
+use lib.ListN.{getD}
 use Rattle.laws.specs.Some.{some, every}
 use Rattle.motion.specs.Far.{outside}
 use Rattle.motion.specs.Grids.{Grids, grids, blockRead}
@@ -18,6 +23,8 @@ use Rattle.strengths.specs.Checks.{badTable, disagree}
 use Rattle.strengths.specs.Kinds.{uniform, flat}
 use Rattle.strengths.specs.Strength.{frame, coded, between, strengthAt}
 use Rattle.strengths.proofs.Examples.{oneMb}
+use Rattle.strengths.proofs.IdentityTables.{Itself}
+use Rattle.strengths.proofs.RenamedPictures.{Renaming}
 
 -- list 0 has a in the first block and b in the others, and this table; list 1 is not lent
 abbrev pub oneList : ℤ → ℤ → List ℤ → Grids
@@ -78,3 +85,35 @@ numbers : (map (λ p. asked (oneList (pos 0) (pos 0) (pos 7 ∷ p ∷ []))) (neg
     × (asked (grids (0 ∷ replicate 15 1) (replicate 16 0) (replicate 16 (pos 0)) (replicate 32 (pos 0)) [] [] (pos 65536 ∷ []) []) ≡ 22)
 unfolding answerOf someRead some disagree badTable
 numbers = (refl, refl, refl, refl)
+
+-- ---- pictures 7 and 9 exchanged are renamed one to one, and the table 0, 1, 2 names each index by itself
+abbrev exchange : ℕ → ℕ
+exchange p = cond (eqb p 7) 9 (cond (eqb p 9) 7 p)
+
+exchange-twice : (p : ℕ) → exchange (exchange p) ≡ p
+exchange-twice p = go (ℕ-discrete p 7) (ℕ-discrete p 9)
+  where
+    go : Dec (p ≡ 7) → Dec (p ≡ 9) → exchange (exchange p) ≡ p
+    go (yes e) h = ap (λ (n : ℕ). exchange (exchange n)) e ∙ sym e
+    go (no h) (yes e) = ap (λ (n : ℕ). exchange (exchange n)) e ∙ sym e
+    go (no h) (no k) = rw (ne-eqb p 7 h, ne-eqb p 9 k, ne-eqb p 7 h, ne-eqb p 9 k)
+
+exchanged : Renaming exchange
+exchanged = record {
+  one-to-one = λ p q e. sym (exchange-twice p) ∙ ap exchange e ∙ exchange-twice q;
+  numbers = λ p. go p (ℕ-discrete p 7) (ℕ-discrete p 9);
+}
+  where
+    go : (p : ℕ) → Dec (p ≡ 7) → Dec (p ≡ 9) → ltb 65535 (exchange p) ≡ ltb 65535 p
+    go p (yes e) h = ap (λ (n : ℕ). ltb 65535 (exchange n)) e ∙ sym (ap (ltb 65535) e)
+    go p (no h) (yes e) = ap (λ (n : ℕ). ltb 65535 (exchange n)) e ∙ sym (ap (ltb 65535) e)
+    go p (no h) (no k) = rw (ne-eqb p 7 h, ne-eqb p 9 k)
+
+by-itself : Itself (pos 0 ∷ pos 1 ∷ pos 2 ∷ [])
+by-itself = record { each = each; numbers = lit≤ tt }
+  where
+    each : (i : ℕ) → i < 3 → getD (pos 0 ∷ pos 1 ∷ pos 2 ∷ []) i none ≡ pos i
+    each zero h = refl
+    each (suc zero) h = refl
+    each (suc (suc zero)) h = refl
+    each (suc (suc (suc i))) h = absurd (omega arith)

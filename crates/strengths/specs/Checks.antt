@@ -25,15 +25,16 @@ badLengths n inter nnz ref0 mv0 ref1 mv1 =
     || not (eqb mv0 (2 * n))
     || not ((eqb ref1 0 && eqb mv1 0) || (eqb ref1 n && eqb mv1 (2 * n)))
 
+abbrev pub badGrids : ℕ → Grids → Bool
+badGrids n g = badLengths n (length (g .inter)) (length (g .nnz)) (length (g .ref0)) (length (g .mv0)) (length (g .ref1)) (length (g .mv1))
+
 -- .. or just one table is empty, unless it is list 1's and list 1 is not lent
 abbrev pub oneTable : ℕ → ℕ → ℕ → Bool
 oneTable ref1 pictures0 pictures1 =
     (eqb pictures0 0 && not (eqb pictures1 0)) || (not (eqb pictures0 0) && eqb pictures1 0 && not (eqb ref1 0))
 
 abbrev pub badBlocks : ℕ → Grids → Bool
-badBlocks n g =
-    badLengths n (length (g .inter)) (length (g .nnz)) (length (g .ref0)) (length (g .mv0)) (length (g .ref1)) (length (g .mv1))
-    || oneTable (length (g .ref1)) (length (g .pictures0)) (length (g .pictures1))
+badBlocks n g = badGrids n g || oneTable (length (g .ref1)) (length (g .pictures0)) (length (g .pictures1))
 
 -- 7: an inter byte that is read is not 0 or 1; nor is a flag, of the macroblock or of its left or upper
 -- neighbour, unless the grid of flags is empty

@@ -126,8 +126,12 @@ static struct deblock_grids numbered_grids(void)
     return g;
 }
 
-/* The numbers of the members from t8s to strengths, as strength calls are handed them. */
-#define DERIVED_FROM 36, 16, 41, 21, 42, 22, 43, 23, 44, 24, 45, 25, 46, 26, 47, 27, 48, 28, 34, 14
+/* The numbers of the members from t8s to strengths, as strength calls are handed them; of inter bytes and
+ * tables those given. */
+#define DERIVED_WITH(inter, inter_len, pictures0, pictures0_len, pictures1, pictures1_len) \
+    36, 16, inter, inter_len, 42, 22, 43, 23, 44, 24, 45, 25, 46, 26, \
+    pictures0, pictures0_len, pictures1, pictures1_len, 34, 14
+#define DERIVED_FROM DERIVED_WITH(41, 21, 47, 27, 48, 28)
 
 static void all_lent(void)
 {
@@ -202,19 +206,17 @@ static void null_tables(void)
 {
     const struct deblock_picture p = numbered();
     struct deblock_grids g = numbered_grids();
+#define EXPECT_TABLES(what, ...) \
+    EXPECT(what, 104, deblock_picture_strengths(&p, &g, 8, 9), 1, 2, 1, 8, 9, DERIVED_WITH(__VA_ARGS__))
     g.pictures0 = NULL;
-    EXPECT("pictures0", 104, deblock_picture_strengths(&p, &g, 8, 9),
-           1, 2, 1, 8, 9, 36, 16, 0, 0, 42, 22, 43, 23, 44, 24, 45, 25, 46, 26, 0, 0, 48, 28, 34, 14);
+    EXPECT_TABLES("pictures0", 0, 0, 0, 0, 48, 28);
     g.pictures0_len = 0;
-    EXPECT("no pictures0", 104, deblock_picture_strengths(&p, &g, 8, 9),
-           1, 2, 1, 8, 9, 36, 16, 41, 21, 42, 22, 43, 23, 44, 24, 45, 25, 46, 26, 0, 0, 48, 28, 34, 14);
+    EXPECT_TABLES("no pictures0", 41, 21, 0, 0, 48, 28);
     g = numbered_grids();
     g.pictures1 = NULL;
-    EXPECT("pictures1", 104, deblock_picture_strengths(&p, &g, 8, 9),
-           1, 2, 1, 8, 9, 36, 16, 0, 0, 42, 22, 43, 23, 44, 24, 45, 25, 46, 26, 47, 27, 0, 0, 34, 14);
+    EXPECT_TABLES("pictures1", 0, 0, 47, 27, 0, 0);
     g.pictures1_len = 0;
-    EXPECT("no pictures1", 104, deblock_picture_strengths(&p, &g, 8, 9),
-           1, 2, 1, 8, 9, 36, 16, 41, 21, 42, 22, 43, 23, 44, 24, 45, 25, 46, 26, 47, 27, 0, 0, 34, 14);
+    EXPECT_TABLES("no pictures1", 41, 21, 47, 27, 0, 0);
 }
 
 /* What comes to V's chroma offset: a sum that every int32_t may be part of. Those below -13 and above 13 go

@@ -86,16 +86,6 @@ static void expect_strength(const char *what, uint32_t want, struct deblock_grid
     }
 }
 
-static void all_strengths(void)
-{
-    for (size_t i = 0; i < sizeof strengths_between / sizeof *strengths_between; i++) {
-        const struct pair *pair = strengths_between + i;
-        store_pair(pair, 1);
-        expect_strength(pair->what, pair->by_picture, lend_tables(pair));
-        expect_strength(pair->what, pair->by_number, lend_none(pair));
-    }
-}
-
 /* What a call answers that is told that a macroblock is uniform, or flat: 0 or 12. Each list is compared with
  * itself, and the vectors of a reference that names none count too. */
 static const struct pair uniform_or_not[] = {
@@ -121,13 +111,14 @@ static void expect_said(const char *what, uint32_t want, struct deblock_grids g)
     }
 }
 
-static void all_uniform(void)
+/* Each pair with its tables and without them; p is in all blocks of macroblock 0, or in one. */
+static void both_ways(const struct pair *pairs, size_t count, int all,
+                      void (*expected)(const char *what, uint32_t want, struct deblock_grids g))
 {
-    for (size_t i = 0; i < sizeof uniform_or_not / sizeof *uniform_or_not; i++) {
-        const struct pair *pair = uniform_or_not + i;
-        store_pair(pair, 0);
-        expect_said(pair->what, pair->by_picture, lend_tables(pair));
-        expect_said(pair->what, pair->by_number, lend_none(pair));
+    for (const struct pair *pair = pairs; pair < pairs + count; pair++) {
+        store_pair(pair, all);
+        expected(pair->what, pair->by_picture, lend_tables(pair));
+        expected(pair->what, pair->by_number, lend_none(pair));
     }
 }
 
@@ -146,8 +137,8 @@ static void last_index(void)
 
 int main(void)
 {
-    all_strengths();
-    all_uniform();
+    both_ways(strengths_between, sizeof strengths_between / sizeof *strengths_between, 1, expect_strength);
+    both_ways(uniform_or_not, sizeof uniform_or_not / sizeof *uniform_or_not, 0, expect_said);
     last_index();
     return faults != 0;
 }

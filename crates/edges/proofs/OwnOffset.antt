@@ -10,7 +10,8 @@ use Rattle.laws.specs.Loop.{span}
 use Rattle.laws.proofs.Loops.{upTo-both}
 use Rattle.lines.specs.Depth.{eight}
 use Rattle.sizes.specs.Entries.{flagAt}
-use Rattle.edges.specs.Picture.{Planes, planes, Held, entries, heldBy, lumaOf, chromaOf, macroblockAt, rowOf, rowsOf}
+use Rattle.edges.specs.Alike.{heldBy}
+use Rattle.edges.specs.Picture.{Planes, planes, Held, entries, lumaOf, chromaOf, macroblockAt, rowOf, rowsOf}
 use Rattle.edges.specs.declared.Offsets.{Offsets}
 
 -- what is held with the one chroma offset c, as it stood

@@ -8,7 +8,8 @@ use lib.Dec.{eqb, ltb}
 use lib.IntN.{pos}
 use Rattle.edges.specs.Macroblock.{after, outerOr, lumaOn}
 use Rattle.sizes.specs.Entries.{flagAt}
-use Rattle.edges.specs.Picture.{entries, beforeOf, heldBy, settingsAt}
+use Rattle.edges.specs.Alike.{heldBy}
+use Rattle.edges.specs.Picture.{entries, beforeOf, settingsAt}
 use Rattle.edges.specs.declared.Offsets.{Offsets}
 
 module _ (w : ℕ) (strengths : ℕ → ℕ) (qps t8s : List ℕ) (o : Offsets) where

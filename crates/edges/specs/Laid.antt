@@ -1,7 +1,7 @@
 -- Apart: no promise to a caller of the public calls rests on it. How the code goes about a field: it filters
 -- the field's macroblocks where they lie in the frame's planes. That this is `onPart` are the laws
 -- `mb-on-part` and `rows-on-part`.
-use Prim.Native.Nat.{ℕ, _+_, _*_}
+use Prim.Native.Nat.{ℕ, _+_, _*_, _/_, _%_}
 use lib.IntN.{ℤ}
 use Rattle.laws.specs.Loop.{upTo, span}
 use Rattle.laws.specs.Places.{Plane}
@@ -37,12 +37,16 @@ lumaIn g base far x y = lumaMb (g .depth) (settingsAt g x y) (originIn base far 
 unfoldable pub chromaIn : Held → ℕ → ℕ → ℤ → ℕ → ℕ → Plane → Plane
 chromaIn g base far offset x y = chromaMb (g .depth) (settingsAt g x y) offset (originIn base far 8 x y) far
 
--- macroblock (x, y); row y; rows a to b, of which b is not one
+-- macroblock (x, y)
 unfoldable pub laidMb : Held → Layout → ℕ → ℕ → Planes → Planes
 laidMb g l x y s =
     planes (lumaIn g (baseOf l (16 * g .w)) (farOf l (16 * g .w)) x y (s .luma))
     (chromaIn g (baseOf l (8 * g .w)) (farOf l (8 * g .w)) (g .u) x y (s .u))
     (chromaIn g (baseOf l (8 * g .w)) (farOf l (8 * g .w)) (g .v) x y (s .v))
+
+-- .. by index, row by row; one row; rows a to b, of which b is not one
+abbrev pub laidStep : Held → Layout → ℕ → Planes → Planes
+laidStep g l i = laidMb g l (i % g .w) (i / g .w)
 
 unfoldable pub laidRow : Held → Layout → ℕ → Planes → Planes
 laidRow g l y = upTo (g .w) (λ x. laidMb g l x y)

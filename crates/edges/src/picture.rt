@@ -1,14 +1,17 @@
 // Macroblocks and rows of a picture, w macroblocks wide, which is a part of three planes. In raster order
-// each macroblock has a QP, an 8x8 flag (an empty grid: all 0) and 32 strengths.
+// each macroblock has a QP, an 8x8 flag (an empty grid: all 0) and 32 strengths. `on` says which edges its
+// slice lets be filtered; rows are of one slice.
 ghost use mathlib.Core.Path.{_≡_};
 ghost use mathlib.Core.Bool.{false};
 ghost use Prim.Native.Nat.{_+_, _*_, _<_, _≤_};
 ghost use lib.ListN.{length};
 ghost use Rattle.lines.specs.Inner.{tables};
 ghost use Rattle.sizes.specs.Sizes.{badParity, frameOfPart};
-ghost use Rattle.edges.specs.Picture.{planes, held};
+ghost use Rattle.edges.specs.Picture.{planes, entries};
+ghost use Rattle.edges.specs.Alike.{heldAs, everyEdge};
 ghost use Rattle.edges.specs.Laid.{layoutOf, laidMb, laidRow, laidRows};
 ghost use Rattle.edges.specs.Inner.{Room};
+use crate::EdgesOn;
 use crate::Offsets;
 use crate::macroblock::all_zero;
 use crate::macroblock::chroma_planes;
@@ -16,6 +19,17 @@ use crate::macroblock::luma_plane;
 use crate::settings::plan_at;
 use sizes::Part;
 use sizes::Size;
+
+// All of them.
+pub fn every_edge() -> EdgesOn
+    ensures { λ r. ⌜ r ≡ everyEdge ⌝ }
+{
+    EdgesOn {
+        left: true,
+        top: true,
+        inner: true,
+    }
+}
 
 // Macroblock (x, row). Where all its strengths are 0 nothing is to do.
 pub fn macroblock(
@@ -31,25 +45,26 @@ pub fn macroblock(
     t8s: &[u8],
     strengths: &[u8],
     o: Offsets,
+    on: EdgesOn,
 )
     requires { ⌜ now t ≡ tables ⌝ }
     requires { ⌜ (badParity part ≡ false) × (x < w) × Room (frameOfPart part (row * w + w)) (row * w + w) (length (now luma)) (length (now u)) (length (now v)) (length (now qps)) (length (now t8s)) (length (now strengths)) ⌝ }
-    ensures { λ _. ⌜ planes (now (luma .exit)) (now (u .exit)) (now (v .exit)) ≡ laidMb (held w (now (strengths .entry)) (now (qps .entry)) (now (t8s .entry)) o) (layoutOf part) x row (planes (now (luma .entry)) (now (u .entry)) (now (v .entry))) ⌝ }
+    ensures { λ _. ⌜ planes (now (luma .exit)) (now (u .exit)) (now (v .exit)) ≡ laidMb (heldAs w (entries (now (strengths .entry))) (now (qps .entry)) (now (t8s .entry)) o on) (layoutOf part) x row (planes (now (luma .entry)) (now (u .entry)) (now (v .entry))) ⌝ }
 {
     let base = 32 * (row * w + x);
     if all_zero(strengths, base) {
         return;
     }
-    let plan = plan_at(t, part, w, x, row, qps, t8s, o);
-    let on = plan.on;
+    let plan = plan_at(t, part, w, x, row, qps, t8s, o, on);
+    let switches = plan.on;
     let at = plan.luma;
     let chroma_at = plan.chroma;
     let levels = plan.levels;
     let by_luma = levels.luma;
     let by_u = levels.u;
     let by_v = levels.v;
-    luma_plane(luma, on, at, strengths, base, by_luma);
-    chroma_planes(u, v, on, chroma_at, strengths, base, by_u, by_v);
+    luma_plane(luma, switches, at, strengths, base, by_luma);
+    chroma_planes(u, v, switches, chroma_at, strengths, base, by_u, by_v);
 }
 
 // Row `row` from left to right.
@@ -65,13 +80,14 @@ fn one_row(
     t8s: &[u8],
     strengths: &[u8],
     o: Offsets,
+    on: EdgesOn,
 )
     requires { ⌜ now t ≡ tables ⌝ }
     requires { ⌜ (badParity part ≡ false) × Room (frameOfPart part (row * w + w)) (row * w + w) (length (now luma)) (length (now u)) (length (now v)) (length (now qps)) (length (now t8s)) (length (now strengths)) ⌝ }
-    ensures { λ _. ⌜ planes (now (luma .exit)) (now (u .exit)) (now (v .exit)) ≡ laidRow (held w (now (strengths .entry)) (now (qps .entry)) (now (t8s .entry)) o) (layoutOf part) row (planes (now (luma .entry)) (now (u .entry)) (now (v .entry))) ⌝ }
+    ensures { λ _. ⌜ planes (now (luma .exit)) (now (u .exit)) (now (v .exit)) ≡ laidRow (heldAs w (entries (now (strengths .entry))) (now (qps .entry)) (now (t8s .entry)) o on) (layoutOf part) row (planes (now (luma .entry)) (now (u .entry)) (now (v .entry))) ⌝ }
 {
     for x in 0..w {
-        macroblock(luma, u, v, t, part, w, x, row, qps, t8s, strengths, o);
+        macroblock(luma, u, v, t, part, w, x, row, qps, t8s, strengths, o, on);
     }
 }
 
@@ -89,13 +105,14 @@ pub fn rows(
     t8s: &[u8],
     strengths: &[u8],
     o: Offsets,
+    on: EdgesOn,
 )
     requires { ⌜ now t ≡ tables ⌝ }
     requires { ⌜ (badParity part ≡ false) × (a ≤ b) × (b ≤ size .h) × Room (frameOfPart part (size .w * size .h)) (size .w * size .h) (length (now luma)) (length (now u)) (length (now v)) (length (now qps)) (length (now t8s)) (length (now strengths)) ⌝ }
-    ensures { λ _. ⌜ planes (now (luma .exit)) (now (u .exit)) (now (v .exit)) ≡ laidRows (held (size .w) (now (strengths .entry)) (now (qps .entry)) (now (t8s .entry)) o) (layoutOf part) a b (planes (now (luma .entry)) (now (u .entry)) (now (v .entry))) ⌝ }
+    ensures { λ _. ⌜ planes (now (luma .exit)) (now (u .exit)) (now (v .exit)) ≡ laidRows (heldAs (size .w) (entries (now (strengths .entry))) (now (qps .entry)) (now (t8s .entry)) o on) (layoutOf part) a b (planes (now (luma .entry)) (now (u .entry)) (now (v .entry))) ⌝ }
 {
     let w = size.w;
     for row in a..b {
-        one_row(luma, u, v, t, part, w, row, qps, t8s, strengths, o);
+        one_row(luma, u, v, t, part, w, row, qps, t8s, strengths, o, on);
     }
 }

@@ -1,7 +1,7 @@
 // What a macroblock is filtered with, by value. One function computes all of it, before a sample is touched:
 // which edges are filtered, where the macroblock lies, by which thresholds.
 ghost use mathlib.Core.Path.{_≡_};
-ghost use mathlib.Core.Bool.{true, false};
+ghost use mathlib.Core.Bool.{true, false, _&&_};
 ghost use Prim.Native.Nat.{ℕ, _+_, _*_, _<_, _≤_};
 ghost use lib.Dec.{eqb, ltb};
 ghost use lib.IntN.{pos};
@@ -9,10 +9,12 @@ ghost use lib.ListN.{length};
 ghost use Rattle.lines.specs.Depth.{eight};
 ghost use Rattle.lines.specs.Inner.{tables};
 ghost use Rattle.sizes.specs.Sizes.{badParity, frameOfPart};
+ghost use Rattle.edges.specs.Alike.{heldAs};
 ghost use Rattle.edges.specs.Inner.{SmallWindow};
 ghost use Rattle.edges.specs.Laid.{layoutOf, windowOf};
 ghost use Rattle.edges.specs.Levels.{levelsOf, planOf};
-ghost use Rattle.edges.specs.Picture.{entries, beforeOf, heldBy};
+ghost use Rattle.edges.specs.Picture.{entries, beforeOf};
+use crate::EdgesOn;
 use crate::Offsets;
 use crate::levels::Levels;
 use crate::levels::of_planes;
@@ -102,7 +104,19 @@ fn window_at(l: Layout, side: usize, w: usize, x: usize, row: usize) -> Window
     Window { origin, stride }
 }
 
-// All of it, where every edge with a neighbour is filtered. The macroblock's luma places fit a usize.
+// Which edges of macroblock (x, row) are filtered: where there is no neighbour there is no edge.
+fn switches_at(on: EdgesOn, x: usize, row: usize, t8: bool) -> Switches
+    ensures { λ r. ⌜ r ≡ record { left = on .left && ltb 0 x; top = on .top && ltb 0 row; inner = on .inner; t8 = t8 } ⌝ }
+{
+    Switches {
+        left: on.left & (0 < x),
+        top: on.top & (0 < row),
+        inner: on.inner,
+        t8,
+    }
+}
+
+// All of it. The macroblock's luma places fit a usize.
 pub fn plan_at(
     t: &[u8; 282],
     part: Part,
@@ -112,23 +126,19 @@ pub fn plan_at(
     qps: &[u8],
     t8s: &[u8],
     o: Offsets,
+    on: EdgesOn,
 ) -> Plan
     requires { ⌜ now t ≡ tables ⌝ }
     requires { ⌜ (badParity part ≡ false) × (256 * frameOfPart part (row * w + w) < 18446744073709551616) ⌝ }
     requires { ⌜ (x < w) × (row * w + w ≤ length (now qps)) × (eqb (length (now t8s)) 0 ≡ false → row * w + w ≤ length (now t8s)) ⌝ }
-    ensures { λ r. ⌜ ((strengths : ℕ → ℕ) → r ≡ planOf (heldBy w strengths (now (qps .entry)) (now (t8s .entry)) o) (layoutOf part) x row) ⌝ }
+    ensures { λ r. ⌜ ((strengths : ℕ → ℕ) → r ≡ planOf (heldAs w strengths (now (qps .entry)) (now (t8s .entry)) o on) (layoutOf part) x row) ⌝ }
 {
     let l = layout_of(part);
     let luma = window_at(l, 16, w, x, row);
     let chroma = window_at(l, 8, w, x, row);
     let t8 = flag_at(t8s, row * w + x);
     let levels = levels_at(t, w, x, row, qps, o);
-    let on = Switches {
-        left: 0 < x,
-        top: 0 < row,
-        inner: true,
-        t8,
-    };
+    let on = switches_at(on, x, row, t8);
     Plan {
         on,
         luma,

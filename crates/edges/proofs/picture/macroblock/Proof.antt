@@ -5,7 +5,8 @@ use mathlib.Core.Path.{sym, _∙_}
 use native.Mathlib.Omega.{arith}
 use Prim.Native.Nat.{_+_, _*_}
 use Rattle.edges.specs.Laid.{layoutOf}
-use Rattle.edges.specs.Picture.{entries, held}
+use Rattle.edges.specs.Alike.{heldAs}
+use Rattle.edges.specs.Picture.{entries}
 use Rattle.edges.proofs.Unchanged.{laid-still, all-zero}
 use Rattle.edges.proofs.Layouts.{skip-lt, frame-times}
 use Rattle.edges.proofs.ByPlan.{luma-inside, chroma-inside, planned}
@@ -15,7 +16,7 @@ use Rattle.edges.proofs.picture.macroblock.Tie as tie
 returns : tie.Need-returns
 returns c =
     let a = c .before .before .before .before .before .before .before .before .args in
-    sym (laid-still (held (a .w) (a .strengths .now) (a .qps .now) (a .t8s .now) (a .o)) (a .x) (a .row) (all-zero _ (sym (c .before .all-zero .ensures) ∙ c .if1 .taken)) (layoutOf (a .part)) _)
+    sym (laid-still (heldAs (a .w) (entries (a .strengths .now)) (a .qps .now) (a .t8s .now) (a .o) (a .on)) (a .x) (a .row) (all-zero _ (sym (c .before .all-zero .ensures) ∙ c .if1 .taken)) (layoutOf (a .part)) _)
 
 plan-at-requires : tie.Need-plan-at-requires
 plan-at-requires c κs =
@@ -28,7 +29,7 @@ luma-plane-requires c κs =
     let m = c .before .before .before .before .before .before .before .before in
     let s = m .before .before .before .before .before .before .before .before .before in
     let a = s .args in
-    let g = held (a .w) (a .strengths .now) (a .qps .now) (a .t8s .now) (a .o) in
+    let g = heldAs (a .w) (entries (a .strengths .now)) (a .qps .now) (a .t8s .now) (a .o) (a .on) in
     let t = frame-times (a .part) (a .row * a .w + a .w) in (
       luma-inside g (layoutOf (a .part)) (a .x) (a .row) (skip-lt (a .part) (s .pre .1 .0)) (s .pre .1 .1) _ (omega (arith, t, s .pre .1 .2 .luma)) _
           (m .plan-at .ensures (entries (a .strengths .now))),
@@ -40,7 +41,7 @@ chroma-planes-requires c κs =
     let m = c .before .before .before .before .before .before .before .before .before .before .before .before .before in
     let s = m .before .before .before .before .before .before .before .before .before in
     let a = s .args in
-    let g = held (a .w) (a .strengths .now) (a .qps .now) (a .t8s .now) (a .o) in
+    let g = heldAs (a .w) (entries (a .strengths .now)) (a .qps .now) (a .t8s .now) (a .o) (a .on) in
     let t = frame-times (a .part) (a .row * a .w + a .w) in
     let turn = skip-lt (a .part) (s .pre .1 .0) in
     let e = m .plan-at .ensures (entries (a .strengths .now)) in (
@@ -55,7 +56,7 @@ returns-2 c =
     let y = z .before .before .before .before .before in
     let m = y .before .before .before .before .before .before .before .before .before in
     let a = m .before .before .before .before .before .before .before .before .before .args in
-    planned (held (a .w) (a .strengths .now) (a .qps .now) (a .t8s .now) (a .o)) (layoutOf (a .part)) (a .x) (a .row) (a .luma .now) (a .u .now) (a .v .now) _
+    planned (heldAs (a .w) (entries (a .strengths .now)) (a .qps .now) (a .t8s .now) (a .o) (a .on)) (layoutOf (a .part)) (a .x) (a .row) (a .luma .now) (a .u .now) (a .v .now) _
     (m .plan-at .ensures (entries (a .strengths .now))) (y .luma-plane .ensures) (z .chroma-planes .ensures .0) (z .chroma-planes .ensures .1)
 
 pub macroblock-spec : {M : Type 1} → statement M

@@ -1,7 +1,7 @@
 -- `plan_at`: the flag and the levels are the definition's, and so are the places. Assumes nothing.
 use borrow.Author.Needs.{needs}
 use mathlib.Core.Path.{sym, subst, ap, _∙_}
-use mathlib.Core.Bool.{true}
+use mathlib.Core.Bool.{_&&_}
 use native.Mathlib.Omega.{arith}
 use Prim.Native.Nat.{_+_, _*_, _<_}
 use lib.Dec.{ltb}
@@ -34,7 +34,8 @@ flag-requires c κs h = let k = c .before .before .before .before .before .pre .
 
 returns : tie.Need-returns
 returns c strengths =
-    let f = c .before in
+    let n = c .before in
+    let f = n .before in
     let two = f .before in
     let one = two .before in
     let l = one .before in
@@ -42,10 +43,10 @@ returns c strengths =
     let luma-at = one .window-at .ensures ∙ ap (λ (m : Layout). windowOf m 16 (a .w) (a .x) (a .row)) (l .layout-of .ensures) in
     let chroma-at = two .window-at2 .ensures ∙ ap (λ (m : Layout). windowOf m 8 (a .w) (a .x) (a .row)) (l .layout-of .ensures) in
     λ i. record {
-      on = record { left = ltb 0 (a .x); top = ltb 0 (a .row); inner = true; t8 = f .flag-at .ensures i };
+      on = (c .switches-at .ensures ∙ (λ j. record { left = a .on .left && ltb 0 (a .x); top = a .on .top && ltb 0 (a .row); inner = a .on .inner; t8 = f .flag-at .ensures j })) i;
       luma = luma-at i;
       chroma = chroma-at i;
-      levels = c .levels-at .ensures i;
+      levels = n .levels-at .ensures i;
     }
 
 pub plan-at-spec : {M : Type 1} → statement M
@@ -58,5 +59,6 @@ plan-at-spec =
     (λ c. search needs)
     (λ c. search needs)
     flag-requires
+    (λ c κs. search needs)
     (λ c κs. search needs)
     returns)

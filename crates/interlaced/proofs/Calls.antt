@@ -11,7 +11,7 @@ use lib.ListN.{length, getD, set}
 use Rattle.edges.specs.Picture.{Planes}
 use Rattle.sizes.specs.declared.Part.the-variants.{Field}
 use Rattle.sizes.specs.declared.Size.{Size}
-use Rattle.pictures.specs.Checks.{lent}
+use Rattle.pictures.specs.Checks.{lentBy}
 use Rattle.visits.specs.Inner.{Served}
 use Rattle.visits.specs.Promise.{VisitOutcome}
 use Rattle.visits.specs.Visit.{At, State}
@@ -26,12 +26,12 @@ module _ (size : Size) (top bottom : OfField) (u : Both) (r : At) {n : ℕ} {t :
   unfolding bothVisit
   field-visited p o = let e = outcome-is-visit o in record { says = e .0; leaves = ap (λ (s : State Planes). storedFor p s u) (e .1) }
 
-  pub top-visited : (p : ℕ) → eqb p 0 ≡ true → VisitOutcome (Field p) (lent size (top .offsets) (top .strengths) (top .qps) (top .t8s)) (u .frame, u .top) r n t
+  pub top-visited : (p : ℕ) → eqb p 0 ≡ true → VisitOutcome (Field p) (lentBy size (top .slicing) (top .strengths) (top .qps) (top .t8s)) (u .frame, u .top) r n t
       → OneVisit size top bottom u (p, r) n (both (t .0) (t .1) (u .bottom))
   top-visited p e = rw e at (field-visited p)
 
   pub bottom-visited : (p : ℕ) → eqb p 0 ≡ false
-      → VisitOutcome (Field p) (lent size (bottom .offsets) (bottom .strengths) (bottom .qps) (bottom .t8s)) (u .frame, u .bottom) r n t
+      → VisitOutcome (Field p) (lentBy size (bottom .slicing) (bottom .strengths) (bottom .qps) (bottom .t8s)) (u .frame, u .bottom) r n t
       → OneVisit size top bottom u (p, r) n (both (t .0) (u .top) (t .1))
   bottom-visited p e = rw e at (field-visited p)
 

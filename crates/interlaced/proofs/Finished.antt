@@ -101,7 +101,7 @@ module _ (size : Size) (top bottom : OfField) (wide : 0 < size .w) where
         e = field-run size top bottom wide start valid p h rs
 
     pub field-from-grids : (p : ℕ) → p < 2 → (g : Grids) → Derived true g size (d p .t8s) (d p .strengths) → AllVisited (size .w) (size .h) (marksFor p (after start rs))
-        → takenOut size p (after start rs .frame) ≡ pictureOf true g size (d p .qps) (d p .t8s) (d p .offsets) (takenOut size p start)
+        → takenOut size p (after start rs .frame) ≡ pictureOf true g size (d p .qps) (d p .t8s) (d p .slicing) (takenOut size p start)
     field-from-grids p h g k all =
         ap (λ (s : State Planes). s .0) e
         ∙ visited-from-grids (d p) wide true g k (takenOut size p start) (only p rs) (subst (λ (s : State Planes). AllVisited (size .w) (size .h) (s .1)) e all)

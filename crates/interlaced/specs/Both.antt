@@ -1,6 +1,6 @@
 -- The two fields of a frame, visited in the order in which their macroblocks arrive: docs/RULES.md, "Fields".
--- Both are of one size; each has strengths, QPs, 8x8 flags, offsets and marks of its own, the planes are the
--- frame's.
+-- Both are of one size; each has strengths, QPs, 8x8 flags, offsets or slices, and marks of its own, the
+-- planes are the frame's.
 use Prim.Native.Nat.{ℕ}
 use mathlib.Core.Bool.{cond}
 use mathlib.Core.List.{List, [], _∷_}
@@ -10,7 +10,10 @@ use Rattle.edges.specs.Picture.{Planes, stepOf}
 use Rattle.edges.specs.declared.Offsets.{Offsets}
 use Rattle.sizes.specs.declared.Part.the-variants.{Field}
 use Rattle.sizes.specs.declared.Size.{Size}
-use Rattle.pictures.specs.Checks.{Lent, lent, heldOf}
+use Rattle.slices.specs.Slicing.{Slicing, single, sliced}
+use Rattle.slices.specs.declared.ChromaOffsets.{ChromaOffsets}
+use Rattle.slices.specs.declared.SliceRecord.{SliceRecord}
+use Rattle.pictures.specs.Checks.{Lent, lentBy, heldOf}
 use Rattle.visits.specs.AnyOrder.{AnyOrderIn}
 use Rattle.visits.specs.Checks.{earlyIn}
 use Rattle.visits.specs.Promise.{visitIn}
@@ -27,13 +30,20 @@ without q (r ∷ rs) = cond (eqb (r .0) q) (without q rs) (r ∷ without q rs)
 
 -- what is lent for one field, and only read
 pub record OfField : Type 0 where
-  pub offsets : Offsets
+  pub slicing : Slicing
   pub strengths : List ℕ
   pub qps : List ℕ
   pub t8s : List ℕ
 
+abbrev pub ofFieldBy : Slicing → List ℕ → List ℕ → List ℕ → OfField
+ofFieldBy sl s q t = record { slicing = sl; strengths = s; qps = q; t8s = t }
+
+-- .. with one pair of offsets; with slices
 abbrev pub ofField : Offsets → List ℕ → List ℕ → List ℕ → OfField
-ofField o s q t = record { offsets = o; strengths = s; qps = q; t8s = t }
+ofField o = ofFieldBy (single o)
+
+abbrev pub ofFieldSlices : ChromaOffsets → List SliceRecord → List ℕ → List ℕ → List ℕ → List ℕ → OfField
+ofFieldSlices c t ns = ofFieldBy (sliced c t ns)
 
 -- the frame's planes, and the marks of the top field, of parity 0, and of the bottom field
 pub record Both : Type 0 where
@@ -58,7 +68,7 @@ unvisitedBoth size start = both start (fresh (size .w) (size .h)) (fresh (size .
 
 module _ (size : Size) (top bottom : OfField) where
   abbrev pub lentFor : ℕ → Lent
-  lentFor p = let f = cond (eqb p 0) top bottom in lent size (f .offsets) (f .strengths) (f .qps) (f .t8s)
+  lentFor p = let f = cond (eqb p 0) top bottom in lentBy size (f .slicing) (f .strengths) (f .qps) (f .t8s)
 
   -- a visit of the field that the request names
   unfoldable pub bothVisit : Both → Arrival → ℕ × Both

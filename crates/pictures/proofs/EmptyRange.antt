@@ -1,7 +1,7 @@
--- An empty range that passes checks 1 to 6, 19 among them, is served, whatever the values are, and leaves the
--- planes. Assumes nothing.
+-- An empty range that passes checks 1 to 6, 19 among them, is served, whatever the values are, but for 21,
+-- which is asked of every record of a table that is lent; and it leaves the planes. Assumes nothing.
 use mathlib.Core.Path.{_≡_, refl, sym, ap, _∙_}
-use mathlib.Core.Bool.{Bool, true, false, cond, not, _&&_}
+use mathlib.Core.Bool.{Bool, true, false, cond, not, _&&_, _||_}
 use mathlib.Core.List.{List, _++_}
 use Prim.Native.Nat.{ℕ, _-_, _*_}
 use native.Mathlib.Nat.{le-refl}
@@ -16,7 +16,8 @@ use Rattle.edges.proofs.PartLaws.{on-part-still}
 use Rattle.sizes.specs.declared.Part.{Part}
 use Rattle.edges.proofs.Pictures.{rows-none}
 use Rattle.sizes.specs.Entries.{badFlag}
-use Rattle.pictures.specs.Checks.{Lent, heldOf, badQp, badStrength, someBad, someBadFlag, pictureChecks, gridChecks, entryChecks}
+use Rattle.slices.specs.Slicing.{Slicing, single, sliced, badNumber, badNumberCount, badSliceOffset, someBadNumber, badSliceMode}
+use Rattle.pictures.specs.Checks.{Lent, heldOf, badQp, badStrength, someBad, someBadFlag, pictureChecks, gridChecks, entryChecks, sliceChecks}
 use Rattle.pictures.specs.Rows.{badRange, qpsFrom, rowReads, rowAnswer, RowOutcome}
 use Rattle.pictures.proofs.SomeBad.{some-bad-none}
 
@@ -25,7 +26,8 @@ module _ (part : Part) (d : Lent) (p : Planes) (a : ℕ) where
   abbrev pub lengthsOf : List (ℕ × Bool)
   lengthsOf =
       pictureChecks part (d .size) (badRange (d .size) a a) (length (p .luma)) (length (p .u)) (length (p .v))
-      ++ gridChecks (d .size .w * d .size .h) (length (d .strengths)) (length (d .qps)) (length (d .t8s)) false (d .offsets)
+      ++ gridChecks (d .size .w * d .size .h) (length (d .strengths)) (length (d .qps)) (length (d .t8s))
+      (badNumberCount (d .slicing) (d .size .w * d .size .h) || false) (badSliceOffset (d .slicing))
 
   no-flags : (n : ℕ) → someBadFlag n n (d .t8s) ≡ false
   no-flags n = go (not (eqb (length (d .t8s)) 0))
@@ -41,17 +43,31 @@ module _ (part : Part) (d : Lent) (p : Planes) (a : ℕ) where
       go true t e = ap (λ (b : Bool). cond b (a * w - w) (a * w)) e
       go false t e = refl
 
-  abbrev entriesOf : List (ℕ × Bool)
-  entriesOf = entryChecks (rowReads (d .size .w) a a (d .strengths) (d .qps) (d .t8s))
+  no-near : (bad : ℕ → Bool) (xs : List ℕ) → someBad bad (qpsFrom (d .size .w) a a) (a * d .size .w) xs ≡ false
+  no-near bad xs = ap (λ (n : ℕ). someBad bad n (a * d .size .w) xs) (no-before (d .size .w)) ∙ sym (some-bad-none bad (a * d .size .w) xs)
 
-  no-entries : 0 ≡ refusal entriesOf
+  no-numbers : (sl : Slicing) → someBadNumber sl (λ bad xs. someBad bad (qpsFrom (d .size .w) a a) (a * d .size .w) xs) ≡ false
+  no-numbers (single o) = refl
+  no-numbers (sliced c t ns) = no-near (badNumber t) ns
+
+  abbrev entriesOf : List (ℕ × Bool)
+  entriesOf = let r = rowReads (d .size .w) a a (d .strengths) (d .t8s) in entryChecks (d .qps) r ++ sliceChecks (d .slicing) r
+
+  -- what is left: 21, or 0
+  abbrev pub modesOf : ℕ
+  modesOf = cond (badSliceMode (d .slicing)) 21 0
+
+  no-entries : modesOf ≡ refusal entriesOf
   no-entries =
       skip 7 (no-flags (a * d .size .w))
-      (skip 8 (ap (λ (n : ℕ). someBad badQp n (a * d .size .w) (d .qps)) (no-before (d .size .w)) ∙ sym (some-bad-none badQp (a * d .size .w) (d .qps)))
-      (skip 9 (sym (some-bad-none badStrength (32 * (a * d .size .w)) (d .strengths))) refl))
+      (skip 8 (no-near badQp (d .qps))
+      (skip 9 (sym (some-bad-none badStrength (32 * (a * d .size .w)) (d .strengths)))
+      (skip 20 (no-numbers (d .slicing)) refl)))
 
-  pub empty-range : (n : ℕ) (p′ : Planes) → refusal lengthsOf ≡ 0 → RowOutcome part d a a p n p′ → (n ≡ 0) × (p′ ≡ p)
+  pub empty-range : (n : ℕ) (p′ : Planes) → refusal lengthsOf ≡ 0 → RowOutcome part d a a p n p′ → (n ≡ modesOf) × (p′ ≡ p)
   unfolding rowAnswer
-  empty-range n p′ e r =
-      let k : n ≡ 0 = r .says ∙ sym (first-passed lengthsOf entriesOf tt e no-entries) in
-      (k, r .leaves ∙ ap (λ (m : ℕ). cond (eqb m 0) (onPart part (d .size) (rowsOf (heldOf d) a a) p) p) k ∙ on-part-still (d .size) (rowsOf (heldOf d) a a) p part (rows-none (heldOf d) a))
+  empty-range n p′ e r = (r .says ∙ sym (first-passed lengthsOf entriesOf tt e no-entries), r .leaves ∙ stays (eqb n 0))
+    where
+      stays : (t : Bool) → cond t (onPart part (d .size) (rowsOf (heldOf d) a a) p) p ≡ p
+      stays true = on-part-still (d .size) (rowsOf (heldOf d) a a) p part (rows-none (heldOf d) a)
+      stays false = refl

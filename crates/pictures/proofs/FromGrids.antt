@@ -15,12 +15,12 @@ use lib.ListN.{length, getD}
 use Rattle.laws.proofs.Lists.{past}
 use Rattle.motion.specs.Grids.{Grids}
 use Rattle.edges.specs.Fields.{onPart}
-use Rattle.edges.specs.Picture.{Planes, entries, heldBy, held, frameOf}
-use Rattle.edges.specs.declared.Offsets.{Offsets}
+use Rattle.edges.specs.Picture.{Planes, entries, frameOf}
+use Rattle.slices.specs.Slicing.{Slicing, heldIn}
 use Rattle.sizes.specs.declared.Part.{Part}
 use Rattle.sizes.specs.declared.Size.{Size}
 use Rattle.strengths.specs.Calls.{PlainOutcome}
-use Rattle.pictures.specs.Checks.{lent}
+use Rattle.pictures.specs.Checks.{lentBy}
 use Rattle.pictures.specs.Rows.{WholeOutcome}
 use Rattle.pictures.specs.Standard.{isField, ofIndex, strengthsOf, pictureOf, Derived}
 use Rattle.strengths.specs.Strength.{written}
@@ -44,10 +44,10 @@ module _ (field : Bool) (g : Grids) (size : Size) (t8s : List ℕ) where
           ∙ sym (ap (λ (b : Bool). cond b (ofIndex field g size t8s (k / 32) (k % 32)) 0) (le-ltb k (32 * (size .w * size .h)) (omega arith)))
 
   -- a picture filtered by a derived grid is the standard's
-  pub derived-picture : (qps s : List ℕ) (o : Offsets) (p : Planes) → Derived field g size t8s s
-      → frameOf (held (size .w) s qps t8s o) (size .h) p ≡ pictureOf field g size qps t8s o p
+  pub derived-picture : (qps s : List ℕ) (sl : Slicing) (p : Planes) → Derived field g size t8s s
+      → frameOf (heldIn sl (size .w) (entries s) qps t8s) (size .h) p ≡ pictureOf field g size qps t8s sl p
   unfolding pictureOf
-  derived-picture qps s o p d = λ i. frameOf (heldBy (size .w) (derived-strengths s d i) qps t8s o) (size .h) p
+  derived-picture qps s sl p d = λ i. frameOf (heldIn sl (size .w) (derived-strengths s d i) qps t8s) (size .h) p
 
   -- ---- a derived grid is what one flagless call a macroblock leaves, in raster order, each served: s 0
   -- before the first, s n after the last. The flags are those that filtering is lent
@@ -84,7 +84,7 @@ module _ (field : Bool) (g : Grids) (size : Size) (t8s : List ℕ) where
 
 -- what the whole-picture call leaves, of a frame or a field, with strengths derived for it: the standard's
 -- picture straight from the grids, on the lines of the part
-pub from-grids : (part : Part) (g : Grids) (size : Size) (qps t8s s : List ℕ) (o : Offsets) (p p′ : Planes) → Derived (isField part) g size t8s s
-    → WholeOutcome part (lent size o s qps t8s) p 0 p′ → p′ ≡ onPart part size (pictureOf (isField part) g size qps t8s o) p
-from-grids part g size qps t8s s o p p′ d r =
-    whole part (lent size o s qps t8s) p p′ r ∙ (λ i. onPart part size (λ t. derived-picture (isField part) g size t8s qps s o t d i) p)
+pub from-grids : (part : Part) (g : Grids) (size : Size) (qps t8s s : List ℕ) (sl : Slicing) (p p′ : Planes) → Derived (isField part) g size t8s s
+    → WholeOutcome part (lentBy size sl s qps t8s) p 0 p′ → p′ ≡ onPart part size (pictureOf (isField part) g size qps t8s sl) p
+from-grids part g size qps t8s s sl p p′ d r =
+    whole part (lentBy size sl s qps t8s) p p′ r ∙ (λ i. onPart part size (λ t. derived-picture (isField part) g size t8s qps s sl t d i) p)

@@ -5,6 +5,7 @@ pub mod Examples
 pub mod Fitting
 pub mod FromGrids
 pub mod Left
+pub mod OneSlice
 pub mod Refused
 pub mod RowBounds
 pub mod RowCalls

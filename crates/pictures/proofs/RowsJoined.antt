@@ -2,6 +2,7 @@
 -- leave. Assumes nothing.
 use mathlib.Core.Path.{_≡_, refl, sym, ap, _∙_}
 use mathlib.Core.Bool.{Bool, true, false, cond, not, _&&_}
+use mathlib.Core.List.{List}
 use mathlib.Core.Logic.{⊎-elim}
 use Prim.Native.Nat.{ℕ, _-_, _*_, _≤_, _<_}
 use native.Mathlib.Nat.{le-refl, le-trans, eq-or-lt-of-le}
@@ -18,6 +19,7 @@ use Rattle.edges.proofs.PartLaws.{on-part-after}
 use Rattle.sizes.specs.declared.Part.{Part}
 use Rattle.edges.proofs.Pictures.{rows-join}
 use Rattle.sizes.specs.Entries.{badFlag}
+use Rattle.slices.specs.Slicing.{Slicing, single, sliced, badNumber, someBadNumber}
 use Rattle.pictures.specs.Checks.{Lent, heldOf, badQp, badStrength, someBad, someBadFlag}
 use Rattle.pictures.specs.Rows.{badRange, qpsFrom, rowChecks, rowAnswer, RowOutcome}
 use Rattle.pictures.proofs.RowCalls.{answered-rows-fit, answered-lengths, done-rows}
@@ -35,22 +37,28 @@ module _ (part : Part) (d : Lent) (a b c : ℕ) (h : a ≤ b) (k : b ≤ c) wher
       go true e f = some-bad-join badFlag (a * w) (b * w) (b * w) (c * w) (d .t8s) (le-refl _) e f
       go false e f = refl
 
-  qps : someBad badQp (qpsFrom w a b) (b * w) (d .qps) ≡ false → someBad badQp (qpsFrom w b c) (c * w) (d .qps) ≡ false
-      → someBad badQp (qpsFrom w a c) (c * w) (d .qps) ≡ false
-  qps e f = ⊎-elim same less (eq-or-lt-of-le h)
+  -- where QPs and slice numbers are read
+  near : (bad : ℕ → Bool) (xs : List ℕ) → someBad bad (qpsFrom w a b) (b * w) xs ≡ false → someBad bad (qpsFrom w b c) (c * w) xs ≡ false
+      → someBad bad (qpsFrom w a c) (c * w) xs ≡ false
+  near bad xs e f = ⊎-elim same less (eq-or-lt-of-le h)
     where
-      same : a ≡ b → someBad badQp (qpsFrom w a c) (c * w) (d .qps) ≡ false
-      same q = ap (λ (n : ℕ). someBad badQp (qpsFrom w n c) (c * w) (d .qps)) q ∙ f
+      same : a ≡ b → someBad bad (qpsFrom w a c) (c * w) xs ≡ false
+      same q = ap (λ (n : ℕ). someBad bad (qpsFrom w n c) (c * w) xs) q ∙ f
 
-      less : a < b → someBad badQp (qpsFrom w a c) (c * w) (d .qps) ≡ false
+      less : a < b → someBad bad (qpsFrom w a c) (c * w) xs ≡ false
       less q =
           let u : ltb a b ≡ ltb a c = lt-ltb a b q ∙ sym (lt-ltb a c (omega arith)) in
-          some-bad-join badQp (qpsFrom w a c) (b * w) (qpsFrom w b c) (c * w) (d .qps) (before (ltb 0 b && ltb b c))
-          (sym (ap (λ (t : Bool). someBad badQp (cond (ltb 0 a && t) (a * w - w) (a * w)) (b * w) (d .qps)) u) ∙ e) f
+          some-bad-join bad (qpsFrom w a c) (b * w) (qpsFrom w b c) (c * w) xs (before (ltb 0 b && ltb b c))
+          (sym (ap (λ (t : Bool). someBad bad (cond (ltb 0 a && t) (a * w - w) (a * w)) (b * w) xs) u) ∙ e) f
         where
           before : (t : Bool) → cond t (b * w - w) (b * w) ≤ b * w
           before true = omega arith
           before false = le-refl _
+
+  numbers : (sl : Slicing) → someBadNumber sl (λ bad xs. someBad bad (qpsFrom w a b) (b * w) xs) ≡ false → someBadNumber sl (λ bad xs. someBad bad (qpsFrom w b c) (c * w) xs) ≡ false
+      → someBadNumber sl (λ bad xs. someBad bad (qpsFrom w a c) (c * w) xs) ≡ false
+  numbers (single o) e f = refl
+  numbers (sliced r t ns) e f = near (badNumber t) ns e f
 
   -- all that the two calls checked: of the planes just their lengths
   checks-joined : c ≤ d .size .h → (ly lu lv my mu mv : ℕ) → refusal (rowChecks part d a b ly lu lv) ≡ 0 → refusal (rowChecks part d b c my mu mv) ≡ 0
@@ -59,7 +67,7 @@ module _ (part : Part) (d : Lent) (a b c : ℕ) (h : a ≤ b) (k : b ≤ c) wher
       let range : badRange (d .size) a c ≡ false = rw (le-ltb c a (le-trans h k), le-ltb (d .size .h) c m) in
       let strengths = some-bad-join badStrength (32 * (a * w)) (32 * (b * w)) (32 * (b * w)) (32 * (c * w)) (d .strengths) (le-refl _) (first 9) (second 9) in
       none-applies (rowChecks part d a c ly lu lv)
-      (first 1, (range, (first 19, (first 3, (first 4, (first 6, (flags (first 7) (second 7), (qps (first 8) (second 8), (strengths, tt)))))))))
+      (first 1, (range, (first 19, (first 3, (first 4, (first 6, (flags (first 7) (second 7), (near badQp (d .qps) (first 8) (second 8), (strengths, (numbers (d .slicing) (first 20) (second 20), (first 21, tt)))))))))))
     where
       first : (n : ℕ) → testOf n (rowChecks part d a b ly lu lv) ≡ false
       first n = passes n (rowChecks part d a b ly lu lv) tt e

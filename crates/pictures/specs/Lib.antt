@@ -1,3 +1,4 @@
 pub mod Checks
+pub mod Inner
 pub mod Rows
 pub mod Standard

@@ -1,5 +1,6 @@
 -- What the calls that filter rows a to b of a picture promise, of which b is not one. They read the rows'
--- strengths, flags and QPs, and the QPs of row a - 1 where there is one and the range is not empty.
+-- strengths, flags and QPs, and the QPs of row a - 1 where there is one and the range is not empty; where
+-- slices are lent, slice numbers as QPs.
 use Prim.Native.Nat.{ℕ, _-_, _*_}
 use mathlib.Core.Path.{_≡_}
 use mathlib.Core.Bool.{Bool, false, cond, _&&_, _||_}
@@ -11,22 +12,25 @@ use Rattle.edges.specs.Fields.{onPart}
 use Rattle.edges.specs.Picture.{Planes, rowsOf}
 use Rattle.sizes.specs.declared.Part.{Part}
 use Rattle.sizes.specs.declared.Size.{Size}
-use Rattle.pictures.specs.Checks.{Lent, heldOf, badQp, someBad, someBadFlag, someBadStrength, Reads, filterChecks}
+use Rattle.pictures.specs.Checks.{Lent, heldOf, someBad, someBadFlag, someBadStrength, Reads, filterChecks}
 
 -- 2
 abbrev pub badRange : Size → ℕ → ℕ → Bool
 badRange size a b = ltb b a || ltb (size .h) b
 
--- 7, 8, 9
+-- 7, 8, 9, 20
 abbrev pub qpsFrom : ℕ → ℕ → ℕ → ℕ
 qpsFrom w a b = cond (ltb 0 a && ltb a b) (a * w - w) (a * w)
 
-abbrev pub rowReads : ℕ → ℕ → ℕ → List ℕ → List ℕ → List ℕ → Reads
-rowReads w a b strengths qps t8s =
-    record { flags = someBadFlag (a * w) (b * w) t8s; qps = someBad badQp (qpsFrom w a b) (b * w) qps; strengths = someBadStrength (a * w) (b * w) strengths }
+abbrev pub rowReads : ℕ → ℕ → ℕ → List ℕ → List ℕ → Reads
+rowReads w a b strengths t8s = record {
+  flags = someBadFlag (a * w) (b * w) t8s;
+  near = λ bad xs. someBad bad (qpsFrom w a b) (b * w) xs;
+  strengths = someBadStrength (a * w) (b * w) strengths;
+}
 
 abbrev pub rowChecks : Part → Lent → ℕ → ℕ → ℕ → ℕ → ℕ → List (ℕ × Bool)
-rowChecks part d a b luma u v = filterChecks part d luma u v (badRange (d .size) a b) false (rowReads (d .size .w) a b (d .strengths) (d .qps) (d .t8s))
+rowChecks part d a b luma u v = filterChecks part d luma u v (badRange (d .size) a b) false (rowReads (d .size .w) a b (d .strengths) (d .t8s))
 
 -- one grey macroblock with strengths 0 and QP 30 gets 0; with QP 52 it gets 8, and with strengths 5 too,
 -- still 8 (proofs/Examples)

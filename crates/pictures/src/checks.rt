@@ -6,8 +6,7 @@ ghost use lib.Dec.{eqb, ltb};
 ghost use lib.ListN.{length};
 ghost use Rattle.laws.specs.Refusal.{refusal};
 ghost use Rattle.sizes.specs.Sizes.{frameOfPart};
-ghost use Rattle.pictures.specs.Checks.{badLent, badOffset, badOffsets, someBad, someBadFlag, someBadStrength, pictureChecks, gridChecks};
-use edges::Offsets;
+ghost use Rattle.pictures.specs.Checks.{badLent, someBad, someBadFlag, someBadStrength, pictureChecks, gridChecks};
 use sizes::Part;
 use sizes::Size;
 use sizes::bad_parity;
@@ -34,20 +33,6 @@ fn bad_lent(n: usize, strengths: usize, qps: usize, t8s: usize) -> bool
     (strengths != 32 * n) | (qps != n) | bad_flag_count(n, t8s)
 }
 
-// Check 6, of one offset.
-fn bad_offset(x: i32) -> bool
-    ensures { λ r. ⌜ r ≡ badOffset x ⌝ }
-{
-    (x < -12) | (12 < x)
-}
-
-// .. of all.
-fn bad_offsets(o: Offsets) -> bool
-    ensures { λ r. ⌜ r ≡ badOffsets o ⌝ }
-{
-    bad_offset(o.a) | bad_offset(o.b) | bad_offset(o.chroma_u) | bad_offset(o.chroma_v)
-}
-
 // Checks 1, 2, 19 and 3. `outside`: check 2 applies.
 pub fn refuse_picture(part: Part, size: Size, outside: bool, luma: usize, u: usize, v: usize) -> u32
     ensures { λ r. ⌜ r ≡ refusal (pictureChecks part size outside luma u v) ⌝ }
@@ -67,22 +52,22 @@ pub fn refuse_picture(part: Part, size: Size, outside: bool, luma: usize, u: usi
     0
 }
 
-// Checks 4 to 6. `other`: a grid that the call alone is lent has the wrong length.
+// Checks 4 to 6. `other`: a grid that the call alone is lent has the wrong length; `six`: check 6 applies.
 pub fn refuse_grids(
     n: usize,
     strengths: usize,
     qps: usize,
     t8s: usize,
     other: bool,
-    o: Offsets,
+    six: bool,
 ) -> u32
     requires { ⌜ n ≤ 36864 ⌝ }
-    ensures { λ r. ⌜ r ≡ refusal (gridChecks n strengths qps t8s other o) ⌝ }
+    ensures { λ r. ⌜ r ≡ refusal (gridChecks n strengths qps t8s other six) ⌝ }
 {
     if bad_lent(n, strengths, qps, t8s) | other {
         return 4;
     }
-    if bad_offsets(o) {
+    if six {
         return 6;
     }
     0

@@ -71,8 +71,8 @@ module _ (d : Lent) (wide : 0 < d .size .w) where
 
   -- .. and with strengths derived from the 4x4 grids g, the standard's picture straight from these
   pub visited-from-grids : (field : Bool) (g : Grids) → Derived field g (d .size) (d .t8s) (d .strengths) → (start : Planes) (rs : List At) → let now = run (visitOf d) rs (unvisited d start) in
-      AllVisited (d .size .w) (d .size .h) (now .1) → now .0 ≡ pictureOf field g (d .size) (d .qps) (d .t8s) (d .offsets) start
-  visited-from-grids field g k start rs all = same-as-whole start rs all ∙ derived-picture field g (d .size) (d .t8s) (d .qps) (d .strengths) (d .offsets) start k
+      AllVisited (d .size .w) (d .size .h) (now .1) → now .0 ≡ pictureOf field g (d .size) (d .qps) (d .t8s) (d .slicing) start
+  visited-from-grids field g k start rs all = same-as-whole start rs all ∙ derived-picture field g (d .size) (d .t8s) (d .qps) (d .strengths) (d .slicing) start k
 
   -- the two say all: any visit of which they hold gives these answers and these states
   pub one-behaviour : {A : Type 0} (number : A → ℕ) (other : Call A Planes) → Demand3 (d .size .w) (d .size .h) (stepOf (heldOf d)) (earlyOf d) number other

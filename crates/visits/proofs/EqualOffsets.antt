@@ -11,41 +11,46 @@ use Rattle.edges.specs.Fields.{onPart}
 use Rattle.edges.specs.Picture.{Planes, stepOf}
 use Rattle.sizes.specs.Sizes.{outsideOf}
 use Rattle.sizes.specs.declared.Part.{Part}
-use Rattle.pictures.specs.Checks.{Lent}
+use Rattle.sizes.specs.declared.Size.{Size}
+use Rattle.edges.specs.declared.Offsets.{Offsets}
+use Rattle.pictures.specs.Checks.{Lent, lent}
 use Rattle.pictures.proofs.EqualOffsets.{oneHeld, oneChecks, equal-lent, equal-checks}
 use Rattle.visits.specs.Checks.{visitReads, earlyIn}
 use Rattle.visits.specs.Promise.{stepIn, visitIn, VisitOutcome, requests, uneven, ReplayOutcome}
 use Rattle.visits.specs.Visit.{At, State, Call, VisitOutcomeOf, visit, run, answers}
 
-module _ (part : Part) (d : Lent) where
+module _ (part : Part) (size : Size) (o : Offsets) (strengths qps t8s : List ℕ) where
+  abbrev d : Lent
+  d = lent size o strengths qps t8s
+
   -- with one chroma offset, U's: the macroblock filtered, and the checks before 13
   abbrev pub oneStep : ℕ → Planes → Planes
-  oneStep i = onPart part (d .size) (stepOf (oneHeld d (d .offsets .«chroma_u»)) i)
+  oneStep i = onPart part size (stepOf (oneHeld size o strengths qps t8s (o .«chroma_u»)) i)
 
   abbrev pub oneEarly : State Planes → At → ℕ
   oneEarly s r =
-      refusal (oneChecks d (d .offsets .«chroma_u») part (length (s .0 .luma)) (length (s .0 .u)) (length (s .0 .v)) (outsideOf (d .size) (r .0) (r .1))
-      (not (eqb (length (s .1)) (d .size .w * d .size .h))) (visitReads (d .size .w) (d .strengths) (d .qps) (d .t8s) (s .1) r))
+      refusal (oneChecks size o strengths qps t8s (o .«chroma_u») part (length (s .0 .luma)) (length (s .0 .u)) (length (s .0 .v)) (outsideOf size (r .0) (r .1))
+      (not (eqb (length (s .1)) (size .w * size .h))) (visitReads (size .w) strengths t8s (s .1) r))
 
   abbrev pub oneVisit : Call ℕ Planes
-  oneVisit = visit (d .size .w) oneStep oneEarly
+  oneVisit = visit (size .w) oneStep oneEarly
 
-  module _ (e : d .offsets .«chroma_u» ≡ d .offsets .«chroma_v») where
+  module _ (e : o .«chroma_u» ≡ o .«chroma_v») where
     equal-step : stepIn part d ≡ oneStep
-    equal-step = λ i k. onPart part (d .size) (stepOf (equal-lent d e i) k)
+    equal-step = λ i k. onPart part size (stepOf (equal-lent size o strengths qps t8s e i) k)
 
     equal-early : earlyIn part d ≡ oneEarly
     unfolding earlyIn
     equal-early = λ i s r.
-        refusal (equal-checks d e part (length (s .0 .luma)) (length (s .0 .u)) (length (s .0 .v)) (outsideOf (d .size) (r .0) (r .1))
-        (not (eqb (length (s .1)) (d .size .w * d .size .h))) (visitReads (d .size .w) (d .strengths) (d .qps) (d .t8s) (s .1) r) i)
+        refusal (equal-checks size o strengths qps t8s e part (length (s .0 .luma)) (length (s .0 .u)) (length (s .0 .v)) (outsideOf size (r .0) (r .1))
+        (not (eqb (length (s .1)) (size .w * size .h))) (visitReads (size .w) strengths t8s (s .1) r) i)
 
     -- what a call promises, and the visit that replays and demand 3 speak of
-    pub equal-outcome-before : VisitOutcome part d ≡ VisitOutcomeOf (d .size .w) oneStep oneEarly
-    equal-outcome-before = λ i. VisitOutcomeOf (d .size .w) (equal-step i) (equal-early i)
+    pub equal-outcome-before : VisitOutcome part d ≡ VisitOutcomeOf (size .w) oneStep oneEarly
+    equal-outcome-before = λ i. VisitOutcomeOf (size .w) (equal-step i) (equal-early i)
 
     pub equal-visit-before : visitIn part d ≡ oneVisit
-    equal-visit-before = λ i. visit (d .size .w) (equal-step i) (equal-early i)
+    equal-visit-before = λ i. visit (size .w) (equal-step i) (equal-early i)
 
     -- requests replayed
     pub equal-replay-before : (xs ys : List ℕ) (s : State Planes) (out : List ℕ) {n : ℕ} {t : State Planes} {out′ : List ℕ} → ReplayOutcome part d xs ys s out n t out′

@@ -32,7 +32,7 @@ use Rattle.visits.proofs.Instance.{fit-kept, none-over, passes-valid}
 use Rattle.visits.proofs.Old.{OldClear, RasterClear, old-allows, old-ends, old-refuted, raster-ends}
 
 fault-sound : Sound faultLent
-fault-sound = record { sides = refl; lengths = refl; range = refl; flag = none-over 1 [] tt; qp = none-over 51 (40 ∷ 40 ∷ 40 ∷ 40 ∷ []) tt; strength = none-over 4 faultStrengths tt }
+fault-sound = record { sides = refl; lengths = refl; numbers = refl; range = refl; flag = none-over 1 [] tt; qp = none-over 51 (40 ∷ 40 ∷ 40 ∷ 40 ∷ []) tt; strength = none-over 4 faultStrengths tt; number = λ i. refl; mode = refl }
 
 module _ (u v : Plane) (lu : length u ≡ 256) (lv : length v ≡ 256) where
   abbrev pub faultStart : Planes

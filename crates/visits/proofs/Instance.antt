@@ -20,7 +20,8 @@ use Rattle.sizes.specs.declared.Part.{Part}
 use Rattle.sizes.specs.declared.Part.the-variants.{Frame}
 use Rattle.pictures.specs.Checks.{Lent, heldOf, badLent, badQp, badStrength, someBad, someBadFlag}
 use Rattle.sizes.specs.Entries.{badFlag}
-use Rattle.visits.specs.Checks.{badMark, badMarks, badQps, visitChecks, earlyIn, earlyOf, Sound, Fit}
+use Rattle.slices.specs.Slicing.{Slicing, single, sliced, badNumber, badNumberCount, someBadNumber}
+use Rattle.visits.specs.Checks.{badMark, badMarks, badAround, visitChecks, earlyIn, earlyOf, Sound, Fit}
 use Rattle.laws.proofs.Bools.{and-false}
 use Rattle.laws.proofs.Refusal.{none-applies}
 use Rattle.visits.proofs.VisitFits.{checked-visit-fits}
@@ -63,17 +64,21 @@ marks-fine ms b w x y =
     k : (i : ℕ) → badMark (getD ms i 0) ≡ false
     k i = le-ltb 1 (getD ms i 0) (b i)
 
-qps-fine : (qps : List ℕ) → ((i : ℕ) → badQp (getD qps i 0) ≡ false) → (w x y : ℕ) → badQps qps w x y ≡ false
-unfolding badQps
-qps-fine qps k w x y =
+pub near-fine : (bad : ℕ → Bool) (xs : List ℕ) → ((i : ℕ) → bad (getD xs i 0) ≡ false) → (w x y : ℕ) → badAround bad xs w x y ≡ false
+unfolding badAround
+near-fine bad xs k w x y =
     let i = y * w + x in
-    rw (k i, fine-where badQp qps k (ltb 0 x) (i - 1), fine-where badQp qps k (ltb 0 y) (i - w))
+    rw (k i, fine-where bad xs k (ltb 0 x) (i - 1), fine-where bad xs k (ltb 0 y) (i - w))
+
+numbers-fine : (sl : Slicing) → ((i : ℕ) → someBadNumber sl (λ bad ns. bad (getD ns i 0)) ≡ false) → (w x y : ℕ) → someBadNumber sl (λ bad ns. badAround bad ns w x y) ≡ false
+numbers-fine (single o) k w x y = refl
+numbers-fine (sliced c t ns) k w x y = near-fine (badNumber t) ns k w x y
 
 pub passes-valid : (d : Lent) → Sound d → Passes (d .size .w) (d .size .h) (earlyOf d) (Fit d)
 unfolding earlyIn
 passes-valid d v s f l b x y hx hy =
     none-applies (visitChecks Frame d (length (s .0 .luma)) (length (s .0 .u)) (length (s .0 .v)) (s .1) (x, y))
-    (v .sides, (place, (refl, (planes, (grids, (v .range, (flags, (qps-fine (d .qps) (v .qp) (d .size .w) x y, (none-bad badStrength (d .strengths) (v .strength) _ _, tt)))))))))
+    (v .sides, (place, (refl, (planes, (grids, (v .range, (flags, (near-fine badQp (d .qps) (v .qp) (d .size .w) x y, (none-bad badStrength (d .strengths) (v .strength) _ _, (numbers-fine (d .slicing) (v .number) (d .size .w) x y, (v .mode, tt)))))))))))
   where
     place : outsideOf (d .size) x y ≡ false
     place = rw (lt-leb (d .size .w) x hx, lt-leb (d .size .h) y hy)
@@ -81,8 +86,9 @@ passes-valid d v s f l b x y hx hy =
     planes : badPlanes (d .size .w * d .size .h) (length (s .0 .luma)) (length (s .0 .u)) (length (s .0 .v)) ≡ false
     planes = rw (eq-eqb _ _ (f .luma), eq-eqb _ _ (f .u), eq-eqb _ _ (f .v))
 
-    grids : (badLent (d .size .w * d .size .h) (length (d .strengths)) (length (d .qps)) (length (d .t8s)) || not (eqb (length (s .1)) (d .size .w * d .size .h))) ≡ false
-    grids = rw (v .lengths, eq-eqb _ _ l)
+    grids : (badLent (d .size .w * d .size .h) (length (d .strengths)) (length (d .qps)) (length (d .t8s))
+        || (badNumberCount (d .slicing) (d .size .w * d .size .h) || not (eqb (length (s .1)) (d .size .w * d .size .h)))) ≡ false
+    grids = rw (v .lengths, v .numbers, eq-eqb _ _ l)
 
     flags : (someBadFlag (y * d .size .w + x) (y * d .size .w + x + 1) (d .t8s) || badMarks (s .1) (d .size .w) x y) ≡ false
     flags =

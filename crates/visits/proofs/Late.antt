@@ -1,6 +1,6 @@
 -- A visit looks at nothing but what `SameSight` names, and changes nothing but what `RestStays` leaves out.
 -- Assumes nothing.
-use mathlib.Core.Path.{_≡_, refl, sym, subst₂, _∙_}
+use mathlib.Core.Path.{_≡_, refl, sym, subst, _∙_}
 use mathlib.Core.List.{List, [], _∷_}
 use Prim.Native.Nat.{ℕ, _+_, _-_, _*_, _<_}
 use native.Mathlib.Decide.{ℕ-discrete}
@@ -10,9 +10,9 @@ use lib.Seq.{getD-set-other}
 use Rattle.laws.specs.Places.{Plane}
 use Rattle.laws.proofs.Local.{local-through}
 use Rattle.edges.specs.Picture.{Planes, stepOf}
-use Rattle.edges.specs.declared.Offsets.{Offsets}
 use Rattle.sizes.specs.declared.Size.{Size}
-use Rattle.pictures.specs.Checks.{Lent, lent, heldOf}
+use Rattle.slices.specs.Slicing.{Slicing}
+use Rattle.pictures.specs.Checks.{Lent, lentBy, heldOf}
 use Rattle.visits.specs.Visit.{At, State}
 use Rattle.visits.specs.Checks.{earlyOf}
 use Rattle.visits.specs.Late.{SamePlane, SameAt, SameEntry, ofRequest, SameMarks, SameSight, SameOutcome, RestStays}
@@ -54,15 +54,15 @@ same-itself {F} p = record { luma = plane (F 16) (p .luma); u = plane (F 8) (p .
     plane : (G : ℕ → Type 0) (s : Plane) → SamePlane G s s
     plane G s = record { len = refl; samples = λ k h. refl }
 
--- ---- with d lent, and with other grids of its size and offsets
-near-regridded : (d : Lent) (ss qs ts : List ℕ) (s t : State Planes) (r : At) → SameSight d (regridded d ss qs ts) s t r → SameOutcome d (regridded d ss qs ts) s t r
-near-regridded d ss qs ts s t r a = go (ℕ-discrete (visitOf d s r .0) 0)
+-- ---- with d lent, and with other slices and grids of its size
+near-regridded : (d : Lent) (sl : Slicing) (ss qs ts : List ℕ) (s t : State Planes) (r : At) → SameSight d (regridded d sl ss qs ts) s t r → SameOutcome d (regridded d sl ss qs ts) s t r
+near-regridded d sl ss qs ts s t r a = go (ℕ-discrete (visitOf d s r .0) 0)
   where
     e : Lent
-    e = regridded d ss qs ts
+    e = regridded d sl ss qs ts
 
     same : visitOf d s r .0 ≡ visitOf e t r .0
-    same = answer-same d ss qs ts s t r a
+    same = answer-same d sl ss qs ts s t r a
 
     go : Dec (visitOf d s r .0 ≡ 0) → SameOutcome d e s t r
     go (no n) =
@@ -76,15 +76,15 @@ near-regridded d ss qs ts s t r a = go (ℕ-discrete (visitOf d s r .0) 0)
         let near = step-more (heldOf d) wide (ofRequest d r) (s .0) (t .0) (λ N k h. h) (a .planes) in
         record {
           number = same;
-          planes = rw (k .after, l .after, ← step-same d ss qs ts r (a .lent) (k .column) (t .0)) near;
+          planes = rw (k .after, l .after, ← step-same d sl ss qs ts r (a .lent .around) (k .column) (t .0)) near;
           marks = rw (k .after, l .after) (marks-set (d .size .w) r (a .marks));
         }
 
 -- for every input, refusals included
 pub near-only : (d e : Lent) (s t : State Planes) (r : At) → SameSight d e s t r → SameOutcome d e s t r
 near-only d e s t r a =
-    subst₂ (λ (z : Size) (o : Offsets). let f = lent z o (e .strengths) (e .qps) (e .t8s) in SameSight d f s t r → SameOutcome d f s t r)
-    (a .lent .shape .size) (a .lent .shape .offsets) (near-regridded d (e .strengths) (e .qps) (e .t8s) s t r) a
+    subst (λ (z : Size). let f = lentBy z (e .slicing) (e .strengths) (e .qps) (e .t8s) in SameSight d f s t r → SameOutcome d f s t r)
+    (a .lent .around .shape .size) (near-regridded d (e .slicing) (e .strengths) (e .qps) (e .t8s) s t r) a
 
 pub rest-stays : (d : Lent) (s : State Planes) (r : At) → RestStays d s r
 rest-stays d s r = go (ℕ-discrete (visitOf d s r .0) 0)

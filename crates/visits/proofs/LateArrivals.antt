@@ -55,7 +55,7 @@ module _ (d : Lent) (start : Planes) (when : ℕ → ℕ) where
       lends = record {
         shape = c .shape;
         marked-samples = same-less (λ N j m. w .marked _ m) (c .older);
-        marked-qps = λ i m. c .there i (let l = w .marked i m in omega arith) .qp;
+        marked-near = λ i m. c .there i (let l = w .marked i m in omega arith) .near;
         legal = c .legal;
         own-samples = λ z. same-less (λ N j q. subst (λ (i : ℕ). (when i < suc k) × (Marked (s .1) i → ⊥)) (sym q) (let a = c .arrived z in omega arith, own-unmarked z)) unmarked-before;
         own-data = λ z. c .there (ofRequest d r) (c .arrived z);

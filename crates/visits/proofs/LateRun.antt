@@ -7,11 +7,12 @@ use lib.ListN.{length-replicate}
 use Rattle.laws.specs.Raster.{Marked, raster}
 use Rattle.edges.specs.Picture.{Planes, stepOf, frameOf}
 use Rattle.sizes.proofs.Sized.{sized}
+use Rattle.slices.specs.Slicing.{Slicing, single, sliced}
 use Rattle.pictures.specs.Checks.{Lent, heldOf}
 use Rattle.visits.specs.Visit.{At, State, run, answers}
 use Rattle.visits.specs.AnyOrder.{AllVisited}
 use Rattle.visits.specs.Checks.{Sound, Fit}
-use Rattle.visits.specs.Late.{SameAt, SamplesOf, CallsWith, LateCalls, Lends, last, call, AsIfThere}
+use Rattle.visits.specs.Late.{SameAt, SamplesOf, SameKind, both-single, both-sliced, CallsWith, LateCalls, Lends, last, call, AsIfThere}
 use Rattle.visits.specs.Promise.{visitOf, unvisited}
 use Rattle.visits.proofs.Demand3.{demand-3, same-as-whole}
 use Rattle.visits.proofs.Late.{done-here, same-itself}
@@ -21,6 +22,11 @@ use Rattle.visits.proofs.LateTurn.{Alongside, turn}
 use Rattle.visits.proofs.Marks.{fresh-bits}
 use Rattle.visits.proofs.Neighbours.{all→index}
 use Rattle.visits.proofs.Outcome.{outcome-of-visit}
+
+-- slices are of the same kind as themselves
+same-kind : (sl : Slicing) → SameKind sl sl
+same-kind (single o) = both-single
+same-kind (sliced c t ns) = both-sliced refl
 
 module _ (d : Lent) (sound : Sound d) (start : Planes) where
   -- from any two states that go along with each other
@@ -38,12 +44,12 @@ module _ (d : Lent) (sound : Sound d) (start : Planes) where
     where
       lends : Lends d start s r (visitOf d s r .0) d (s .0)
       lends = record {
-        shape = record { size = refl; offsets = refl; strengths = refl; qps = refl; t8s = refl };
+        shape = record { size = refl; slicing = same-kind (d .slicing); strengths = refl; qps = refl; t8s = refl };
         legal = valid-legal d sound s r (a .fit) (a .full) (a .bits);
         marked-samples = same-itself (s .0);
-        marked-qps = λ i m. refl;
+        marked-near = λ i m. record { qp = refl; number = refl };
         own-samples = λ z. same-less (λ N k e m. done-here d s r z .unvisited (subst (Marked (s .1)) e m)) (a .unmarked);
-        own-data = λ z. record { strengths = λ k h. refl; flag = refl; qp = refl };
+        own-data = λ z. record { near = record { qp = refl; number = refl }; strengths = λ k h. refl; flag = refl; slice = refl };
       }
 
   -- before the first call nothing is marked, so the planes may hold anything

@@ -1,7 +1,7 @@
--- Filtering a macroblock looks at nothing of what is lent but what `SameLent` names, and of the planes at its
--- footprint alone. Assumes nothing.
-use mathlib.Core.Path.{_≡_, sym, ap, _∙_}
-use mathlib.Core.Bool.{Bool, true, false, cond, not}
+-- Filtering a macroblock looks at nothing of what is lent but what `SameAround` names, and of the planes at
+-- its footprint alone. Assumes nothing.
+use mathlib.Core.Path.{_≡_, refl, sym, ap, _∙_}
+use mathlib.Core.Bool.{Bool, true, false, cond, not, _&&_}
 use mathlib.Core.List.{List}
 use Prim.Native.Nat.{ℕ, _-_, _*_, _/_, _%_, _<_}
 use lib.Dec.{T, eqb, ltb, ltb→lt}
@@ -9,6 +9,7 @@ use lib.IntN.{ℤ, pos}
 use lib.ListN.{getD}
 use Rattle.laws.specs.Local.{Local}
 use Rattle.laws.specs.Places.{Plane}
+use Rattle.laws.proofs.Bools.{and-false}
 use Rattle.laws.proofs.Grid.{decTouch}
 use Rattle.edges.specs.Macroblock.{Settings, lumaMb, chromaMb}
 use Rattle.edges.specs.Picture.{Planes, Held, stepOf, lumaOf, chromaOf, macroblockAt, settingsAt, originOf, entries, beforeOf}
@@ -16,9 +17,13 @@ use Rattle.sizes.specs.Entries.{flagAt}
 use Rattle.edges.proofs.Local.{lumaBoth-by, chromaBoth-by}
 use Rattle.edges.proofs.Pictures.{step-index}
 use Rattle.edges.proofs.Steps.{luma-foot, chroma-foot}
-use Rattle.pictures.specs.Checks.{Lent, lent, heldOf}
+use Rattle.slices.specs.Slicing.{Slicing, offsetA, offsetB, chromaOffsets, filters, filtersEdge, filtersInside, filtersToward}
+use Rattle.slices.specs.Table.{recordOf}
+use Rattle.slices.specs.declared.ChromaOffsets.{ChromaOffsets}
+use Rattle.slices.specs.declared.SliceRecord.{SliceRecord}
+use Rattle.pictures.specs.Checks.{Lent, lentBy, heldOf}
 use Rattle.visits.specs.Visit.{At}
-use Rattle.visits.specs.Late.{SamePlane, SameAt, NearFoot, OffFoot, SameEntry, ofRequest, SameLent}
+use Rattle.visits.specs.Late.{SamePlane, SameAt, NearFoot, OffFoot, tableOf, numbersOf, SameKind, both-single, both-sliced, SameEntry, ofRequest, SameAround}
 
 -- ---- planes: as they were outside the footprint
 local-off : {F : ℕ → Type 0} {f : Plane → Plane} {s : Plane} → Local F f → SamePlane (λ p. F p → ⊥) s (f s)
@@ -52,13 +57,41 @@ module _ (g : Held) (wide : 0 < g .w) (i : ℕ) (p q : Planes) where
     v = local-off (chroma-foot g wide i (g .v));
   }
 
--- ---- what is lent: d, and other grids with its size and offsets
-abbrev pub regridded : Lent → List ℕ → List ℕ → List ℕ → Lent
-regridded d ss qs ts = lent (d .size) (d .offsets) ss qs ts
+-- ---- slices of the same kind say the same of macroblock i, where the record of its slice and the numbers
+-- that mode 2 compares are the same
+abbrev SameRecord : Slicing → Slicing → ℕ → Type 0
+SameRecord sl sk i = recordOf (tableOf sl) (getD (numbersOf sl) i 0) ≡ recordOf (tableOf sk) (getD (numbersOf sk) i 0)
 
-module _ (d : Lent) (ss qs ts : List ℕ) (r : At) (a : SameLent d (regridded d ss qs ts) r) where
+chroma-alike : {sl sk : Slicing} → SameKind sl sk → chromaOffsets sl ≡ chromaOffsets sk
+chroma-alike both-single = refl
+chroma-alike (both-sliced l) = refl
+
+a-alike : {sl sk : Slicing} → SameKind sl sk → (i : ℕ) → SameRecord sl sk i → offsetA sl i ≡ offsetA sk i
+a-alike both-single i r = refl
+a-alike (both-sliced l) i r = ap (λ (s : SliceRecord). s .a) r
+
+b-alike : {sl sk : Slicing} → SameKind sl sk → (i : ℕ) → SameRecord sl sk i → offsetB sl i ≡ offsetB sk i
+b-alike both-single i r = refl
+b-alike (both-sliced l) i r = ap (λ (s : SliceRecord). s .b) r
+
+inside-alike : {sl sk : Slicing} → SameKind sl sk → (i : ℕ) → SameRecord sl sk i → filtersInside sl i ≡ filtersInside sk i
+inside-alike both-single i r = refl
+inside-alike (both-sliced l) i r = ap filters r
+
+-- the edge to the macroblock k places before, where there is one
+toward-alike : (there : Bool) (k : ℕ) {sl sk : Slicing} → SameKind sl sk → (i : ℕ) → SameRecord sl sk i → SameEntry (numbersOf sl) (numbersOf sk) i
+    → (T there → SameEntry (numbersOf sl) (numbersOf sk) (i - k)) → (filtersToward k sl i && there) ≡ (filtersToward k sk i && there)
+toward-alike false k {sl} {sk} kind i r own other = and-false (filtersToward k sl i) refl ∙ sym (and-false (filtersToward k sk i) refl)
+toward-alike true k both-single i r own other = refl
+toward-alike true k (both-sliced l) i r own other = λ j. filtersEdge (r j) (own j) (other tt j) && true
+
+-- ---- what is lent: d, and other slices and grids with its size
+abbrev pub regridded : Lent → Slicing → List ℕ → List ℕ → List ℕ → Lent
+regridded d sl ss qs ts = lentBy (d .size) sl ss qs ts
+
+module _ (d : Lent) (sl : Slicing) (ss qs ts : List ℕ) (r : At) (a : SameAround d (regridded d sl ss qs ts) r) where
   abbrev e : Lent
-  e = regridded d ss qs ts
+  e = regridded d sl ss qs ts
 
   abbrev mine : Settings
   mine = settingsAt (heldOf d) (r .0) (r .1)
@@ -70,17 +103,28 @@ module _ (d : Lent) (ss qs ts : List ℕ) (r : At) (a : SameLent d (regridded d 
   before-same : (b : Bool) (k : ℕ) → (T b → SameEntry (d .qps) qs (ofRequest d r - k))
       → pos (entries (d .qps) (beforeOf b (ofRequest d r) k)) ≡ pos (entries qs (beforeOf b (ofRequest d r) k))
   before-same true k h = ap pos (h tt)
-  before-same false k h = ap pos (a .own .qp)
+  before-same false k h = ap pos (a .own .near .qp)
 
-  left-same : mine .qpLeft ≡ theirs .qpLeft
-  left-same = before-same (ltb 0 (r .0)) 1 (λ t. a .left (ltb→lt 0 (r .0) t))
+  qp-left-same : mine .qpLeft ≡ theirs .qpLeft
+  qp-left-same = before-same (ltb 0 (r .0)) 1 (λ t. a .left (ltb→lt 0 (r .0) t) .qp)
 
-  above-same : mine .qpAbove ≡ theirs .qpAbove
-  above-same = before-same (ltb 0 (r .1)) (d .size .w) (λ t. a .upper (ltb→lt 0 (r .1) t))
+  qp-above-same : mine .qpAbove ≡ theirs .qpAbove
+  qp-above-same = before-same (ltb 0 (r .1)) (d .size .w) (λ t. a .upper (ltb→lt 0 (r .1) t) .qp)
 
   flag-same : mine .t8 ≡ theirs .t8
   unfolding flagAt
   flag-same = λ i. cond (eqb (a .shape .t8s i) 0) false (not (eqb (a .own .flag i) 0))
+
+  -- the edges that are filtered
+  edge-same : (there : Bool) (k : ℕ) → (T there → SameEntry (numbersOf (d .slicing)) (numbersOf sl) (ofRequest d r - k))
+      → (filtersToward k (d .slicing) (ofRequest d r) && there) ≡ (filtersToward k sl (ofRequest d r) && there)
+  edge-same there k h = toward-alike there k (a .shape .slicing) (ofRequest d r) (a .own .slice) (a .own .near .number) h
+
+  left-same : mine .left ≡ theirs .left
+  left-same = edge-same (ltb 0 (r .0)) 1 (λ t. a .left (ltb→lt 0 (r .0) t) .number)
+
+  top-same : mine .top ≡ theirs .top
+  top-same = edge-same (ltb 0 (r .1)) (d .size .w) (λ t. a .upper (ltb→lt 0 (r .1) t) .number)
 
   -- d's settings with the other strengths
   abbrev mixed : Settings
@@ -99,15 +143,15 @@ module _ (d : Lent) (ss qs ts : List ℕ) (r : At) (a : SameLent d (regridded d 
 
   mixed-same : mixed ≡ theirs
   mixed-same = λ i. record {
-    left = mine .left;
-    top = mine .top;
-    inner = mine .inner;
+    left = left-same i;
+    top = top-same i;
+    inner = inside-alike (a .shape .slicing) (ofRequest d r) (a .own .slice) i;
     t8 = flag-same i;
-    qp = pos (a .own .qp i);
-    qpLeft = left-same i;
-    qpAbove = above-same i;
-    a = mine .a;
-    b = mine .b;
+    qp = pos (a .own .near .qp i);
+    qpLeft = qp-left-same i;
+    qpAbove = qp-above-same i;
+    a = a-alike (a .shape .slicing) (ofRequest d r) (a .own .slice) i;
+    b = b-alike (a .shape .slicing) (ofRequest d r) (a .own .slice) i;
     strengths = theirs .strengths;
   }
 
@@ -117,19 +161,22 @@ module _ (d : Lent) (ss qs ts : List ℕ) (r : At) (a : SameLent d (regridded d 
       lumaBoth-by (mine .strengths) (theirs .strengths) (a .own .strengths) _ _ _ _ p _ _ _
       ∙ ap (λ (s : Settings). lumaMb (heldOf d .depth) s (originOf 16 (d .size .w) (r .0) (r .1)) (16 * d .size .w) p) mixed-same
 
-  chroma-same : (offset : ℤ) (p : Plane) → chromaOf (heldOf d) offset (r .0) (r .1) p ≡ chromaOf (heldOf e) offset (r .0) (r .1) p
+  chroma-same : {m n : ℤ} → m ≡ n → (p : Plane) → chromaOf (heldOf d) m (r .0) (r .1) p ≡ chromaOf (heldOf e) n (r .0) (r .1) p
   unfolding chromaOf
   chroma-same offset p =
       chromaBoth-by (mine .strengths) (theirs .strengths) (a .own .strengths) _ _ _ _ p _ _ _
-      ∙ ap (λ (s : Settings). chromaMb (heldOf d .depth) s offset (originOf 8 (d .size .w) (r .0) (r .1)) (8 * d .size .w) p) mixed-same
+      ∙ (λ i. chromaMb (heldOf d .depth) (mixed-same i) (offset i) (originOf 8 (d .size .w) (r .0) (r .1)) (8 * d .size .w) p)
 
   macroblock-same : (p : Planes) → macroblockAt (heldOf d) (r .0) (r .1) p ≡ macroblockAt (heldOf e) (r .0) (r .1) p
   unfolding macroblockAt
-  macroblock-same p = λ i. record {
-    luma = luma-same (p .luma) i;
-    u = chroma-same (d .offsets .«chroma_u») (p .u) i;
-    v = chroma-same (d .offsets .«chroma_v») (p .v) i;
-  }
+  macroblock-same p =
+      let offsets = chroma-alike (a .shape .slicing) in
+      λ i.
+      record {
+        luma = luma-same (p .luma) i;
+        u = chroma-same (ap (λ (c : ChromaOffsets). c .u) offsets) (p .u) i;
+        v = chroma-same (ap (λ (c : ChromaOffsets). c .v) offsets) (p .v) i;
+      }
 
   pub step-same : r .0 < d .size .w → (p : Planes) → stepOf (heldOf d) (ofRequest d r) p ≡ stepOf (heldOf e) (ofRequest d r) p
   step-same h p = step-index (heldOf d) (r .0) (r .1) h p ∙ macroblock-same p ∙ sym (step-index (heldOf e) (r .0) (r .1) h p)

@@ -1,6 +1,6 @@
 -- One call with late data, alongside a visit that has all data: the same answer, the same marks, and the same
 -- samples of marked macroblocks. Assumes nothing.
-use mathlib.Core.Path.{_≡_, refl, sym, ap, subst, subst₂, _∙_}
+use mathlib.Core.Path.{_≡_, refl, sym, ap, subst, _∙_}
 use mathlib.Core.Logic.{_⊎_, inl, inr}
 use mathlib.Core.List.{List}
 use Prim.Native.Nat.{ℕ, _+_, _-_, _*_, _<_}
@@ -11,14 +11,14 @@ use lib.Seq.{getD-set-other}
 use Rattle.laws.specs.Grid.{Near, is-left, is-up}
 use Rattle.laws.specs.Raster.{Marked}
 use Rattle.edges.specs.Picture.{Planes, stepOf}
-use Rattle.edges.specs.declared.Offsets.{Offsets}
 use Rattle.sizes.specs.declared.Size.{Size}
-use Rattle.pictures.specs.Checks.{Lent, lent, heldOf}
+use Rattle.slices.specs.Slicing.{Slicing}
+use Rattle.pictures.specs.Checks.{Lent, lentBy, heldOf}
 use Rattle.sizes.specs.declared.Part.the-variants.{Frame}
 use Rattle.visits.specs.Visit.{At, State}
 use Rattle.visits.specs.Beyond.{Bits}
 use Rattle.visits.specs.Checks.{Sound, Fit}
-use Rattle.visits.specs.Late.{SameAt, SamplesOf, SameEntry, SameLent, ofRequest, Lends}
+use Rattle.visits.specs.Late.{SameAt, SamplesOf, SameNear, SameAround, ofRequest, Lends}
 use Rattle.visits.specs.Promise.{visitOf, VisitOutcome}
 use Rattle.visits.proofs.Instance.{fit-kept}
 use Rattle.visits.proofs.Late.{refused-here, DoneHere, done-here}
@@ -51,10 +51,10 @@ marked-before ms i j m = go (ℕ-discrete j i)
     go (yes e) = inl e
     go (no n) = inr (sym (getD-set-other ms i j 1 0 n) ∙ m)
 
--- ---- with grids of d's size and offsets lent, and the marks that both have
-module _ (d : Lent) (sound : Sound d) (start : Planes) (ss qs ts : List ℕ) (s : State Planes) (t : Planes) (a : Alongside d start s (t, s .1)) (r : At) (n : ℕ) (p : Planes)
-    (c : Lends d start (t, s .1) r n (regridded d ss qs ts) p)
-    (said : n ≡ visitOf (regridded d ss qs ts) (p, s .1) r .0) where
+-- ---- with slices and grids of d's size lent, and the marks that both have
+module _ (d : Lent) (sound : Sound d) (start : Planes) (sl : Slicing) (ss qs ts : List ℕ) (s : State Planes) (t : Planes) (a : Alongside d start s (t, s .1)) (r : At) (n : ℕ) (p : Planes)
+    (c : Lends d start (t, s .1) r n (regridded d sl ss qs ts) p)
+    (said : n ≡ visitOf (regridded d sl ss qs ts) (p, s .1) r .0) where
   abbrev W : ℕ
   W = d .size .w
 
@@ -62,7 +62,7 @@ module _ (d : Lent) (sound : Sound d) (start : Planes) (ss qs ts : List ℕ) (s 
   i = ofRequest d r
 
   abbrev e : Lent
-  e = regridded d ss qs ts
+  e = regridded d sl ss qs ts
 
   -- before the visit the marked macroblocks are the same
   same-before : SameAt (SamplesOf W (Marked (s .1))) (s .0) p
@@ -71,7 +71,7 @@ module _ (d : Lent) (sound : Sound d) (start : Planes) (ss qs ts : List ℕ) (s 
   number-same : visitOf d s r .0 ≡ n
   number-same =
       let legal = rw said at (c .legal) in
-      valid-answer d sound ss qs ts (c .shape) (s .1) (a .full) (a .bits) (s .0) p (a .fit) (fit-same d (a .fit) same-before) r legal ∙ sym said
+      valid-answer d sound sl ss qs ts (c .shape) (s .1) (a .full) (a .bits) (s .0) p (a .fit) (fit-same d (a .fit) same-before) r legal ∙ sym said
 
   -- ---- a visit that is done
   module _ (z : visitOf d s r .0 ≡ 0) where
@@ -81,18 +81,18 @@ module _ (d : Lent) (sound : Sound d) (start : Planes) (ss qs ts : List ℕ) (s 
     zero : n ≡ 0
     zero = sym number-same ∙ z
 
-    -- the left and the upper neighbour are marked, so their QPs are d's
-    qp-at : (nx ny : ℕ) → nx < W → Near nx ny (r .0) (r .1) → (j : ℕ) → ny * W + nx ≡ j → SameEntry (d .qps) qs j
-    qp-at nx ny h near j e = subst (SameEntry (d .qps) qs) e (c .marked-qps (ny * W + nx) (ready-here d s r z (ny * W + nx) (near→dep W nx ny (r .0) (r .1) h (k .column) near)))
+    -- the left and the upper neighbour are marked, so their QPs and slice numbers are d's
+    near-at : (nx ny : ℕ) → nx < W → Near nx ny (r .0) (r .1) → (j : ℕ) → ny * W + nx ≡ j → SameNear d e j
+    near-at nx ny h near j is = subst (SameNear d e) is (c .marked-near (ny * W + nx) (ready-here d s r z (ny * W + nx) (near→dep W nx ny (r .0) (r .1) h (k .column) near)))
 
-    lent-same : SameLent d e r
-    lent-same = record {
+    around-same : SameAround d e r
+    around-same = record {
       shape = c .shape;
       own = c .own-data zero;
-      left = λ h. qp-at (r .0 - 1) (r .1) (omega (arith, k .column)) (is-left (omega arith) refl) (i - 1) (omega arith);
+      left = λ h. near-at (r .0 - 1) (r .1) (omega (arith, k .column)) (is-left (omega arith) refl) (i - 1) (omega arith);
       upper = λ h.
           let up : r .1 ≡ r .1 - 1 + 1 = omega arith in
-          qp-at (r .0) (r .1 - 1) (k .column) (is-up refl (omega arith)) (i - W) (omega (arith, ap (λ (y : ℕ). y * W) up));
+          near-at (r .0) (r .1 - 1) (k .column) (is-up refl (omega arith)) (i - W) (omega (arith, ap (λ (y : ℕ). y * W) up));
     }
 
     -- what is its own or marked is the same before, and so afterwards
@@ -105,7 +105,7 @@ module _ (d : Lent) (sound : Sound d) (start : Planes) (ss qs ts : List ℕ) (s 
     same-done : SameAt (SamplesOf W (Marked (set (s .1) i 1))) (stepOf (heldOf d) i (s .0)) (stepOf (heldOf e) i p)
     same-done =
         let wide : 0 < d .size .w = omega (arith, k .column) in
-        rw (← step-same d ss qs ts r lent-same (k .column) p)
+        rw (← step-same d sl ss qs ts r around-same (k .column) p)
         (same-less (λ N j m. marked-before (s .1) i _ m) (step-more (heldOf d) wide i (s .0) p (touched-here d s r z) wider-before))
 
   -- ---- afterwards
@@ -145,14 +145,14 @@ turn d sound start {s} {t} {u} {r} {n} {e} {p} a c o =
     Turn ms f = Alongside d start s (t .0, ms) → Lends d start (t .0, ms) r n f p → n ≡ visitOf f (p, ms) r .0
         → (n ≡ visitOf d s r .0) × Alongside d start (visitOf d s r .1) (visitOf f (p, ms) r .1)
 
-    here : Turn (s .1) (regridded d (e .strengths) (e .qps) (e .t8s))
+    here : Turn (s .1) (regridded d (e .slicing) (e .strengths) (e .qps) (e .t8s))
     here a c said = (
-      sym (number-same d sound start (e .strengths) (e .qps) (e .t8s) s (t .0) a r n p c said),
-      turn-regridded d sound start (e .strengths) (e .qps) (e .t8s) s (t .0) a r n p c said,
+      sym (number-same d sound start (e .slicing) (e .strengths) (e .qps) (e .t8s) s (t .0) a r n p c said),
+      turn-regridded d sound start (e .slicing) (e .strengths) (e .qps) (e .t8s) s (t .0) a r n p c said,
     )
 
     moved : (ms : List ℕ) → s .1 ≡ ms → Alongside d start s (t .0, ms) → Lends d start (t .0, ms) r n e p → n ≡ visitOf e (p, ms) r .0
         → (n ≡ visitOf d s r .0) × Alongside d start (visitOf d s r .1) (visitOf e (p, ms) r .1)
     moved ms m a c =
         subst (λ (l : List ℕ). Turn l e) m
-        (subst₂ (λ (z : Size) (q : Offsets). Turn (s .1) (lent z q (e .strengths) (e .qps) (e .t8s))) (c .shape .size) (c .shape .offsets) here) a c
+        (subst (λ (z : Size). Turn (s .1) (lentBy z (e .slicing) (e .strengths) (e .qps) (e .t8s))) (c .shape .size) here) a c

@@ -25,6 +25,7 @@ pub mod Marks
 pub mod Neighbours
 pub mod Old
 pub mod OneOutcome
+pub mod OneSlice
 pub mod Outcome
 pub mod Progress
 pub mod Refused

@@ -32,7 +32,7 @@ abbrev pub singleStep : ℕ → Planes → Planes
 singleStep = stepOf (heldOf oneLent)
 
 pub one-sound : Sound oneLent
-one-sound = record { sides = refl; lengths = refl; range = refl; flag = none-over 1 [] tt; qp = none-over 51 (40 ∷ []) tt; strength = none-over 4 oneStrengths tt }
+one-sound = record { sides = refl; lengths = refl; numbers = refl; range = refl; flag = none-over 1 [] tt; qp = none-over 51 (40 ∷ []) tt; strength = none-over 4 oneStrengths tt; number = λ i. refl; mode = refl }
 
 pub one-fit : Fit oneLent onePlanes
 unfolding band
@@ -55,7 +55,7 @@ abbrev pub pairStep : ℕ → Planes → Planes
 pairStep = stepOf (heldOf pairLent)
 
 pub pair-sound : Sound pairLent
-pair-sound = record { sides = refl; lengths = refl; range = refl; flag = none-over 1 [] tt; qp = none-over 51 (40 ∷ 40 ∷ []) tt; strength = none-over 4 (outerStrengths 0 0 ++ outerStrengths 1 0) tt }
+pair-sound = record { sides = refl; lengths = refl; numbers = refl; range = refl; flag = none-over 1 [] tt; qp = none-over 51 (40 ∷ 40 ∷ []) tt; strength = none-over 4 (outerStrengths 0 0 ++ outerStrengths 1 0) tt; number = λ i. refl; mode = refl }
 
 pub pair-fit : Fit pairLent pairPlanes
 unfolding band
@@ -82,7 +82,7 @@ abbrev pub columnStep : ℕ → Planes → Planes
 columnStep = stepOf (heldOf columnLent)
 
 pub column-sound : Sound columnLent
-column-sound = record { sides = refl; lengths = refl; range = refl; flag = none-over 1 [] tt; qp = none-over 51 (40 ∷ 40 ∷ []) tt; strength = none-over 4 (outerStrengths 0 0 ++ outerStrengths 0 1) tt }
+column-sound = record { sides = refl; lengths = refl; numbers = refl; range = refl; flag = none-over 1 [] tt; qp = none-over 51 (40 ∷ 40 ∷ []) tt; strength = none-over 4 (outerStrengths 0 0 ++ outerStrengths 0 1) tt; number = λ i. refl; mode = refl }
 
 pub column-fit : Fit columnLent columnPlanes
 unfolding band

@@ -14,11 +14,13 @@ use Rattle.laws.proofs.Refusal.{passes}
 use Rattle.edges.specs.Inner.{Room}
 use Rattle.sizes.specs.Sizes.{outsideOf, frameOfPart}
 use Rattle.sizes.specs.declared.Part.{Part}
+use Rattle.slices.specs.Slicing.{badNumberCount}
 use Rattle.sizes.proofs.Sized.{frame-of-part-le}
 use Rattle.pictures.specs.Checks.{Lent}
 use Rattle.pictures.proofs.Fitting.{Fitting, fitting}
 use Rattle.visits.specs.Visit.{At}
 use Rattle.visits.specs.Checks.{visitChecks}
+use Rattle.visits.specs.Inner.{Shared, sharedVisitChecks}
 use Rattle.sizes.specs.Inner.{InPicture}
 
 -- ly, lu, lv, lm are the lengths of planes and marks
@@ -36,13 +38,23 @@ module _ (part : Part) (d : Lent) (ly lu lv : ℕ) where
       let place = or-false (leb (d .size .w) (r .0)) (leb (d .size .h) (r .1)) two in
       record { fit = f; column = leb-false (d .size .w) (r .0) (place .0); row = leb-false (d .size .h) (r .1) (place .1); marks = equal _ _ four }
 
+  -- by all checks, and by those that calls with slices and without share
   pub checked-visit-fits : (ms : List ℕ) (r : At) → refusal (visitChecks part d ly lu lv ms r) ≡ 0 → VisitFits part d ly lu lv (length ms) r
   checked-visit-fits ms r e =
       let four = or-false _ _ (passes 4 cs tt e) in
-      visit-fits (length ms) r (fitting part d ly lu lv (passes 1 cs tt e) (passes 19 cs tt e) (passes 3 cs tt e) (four .0)) (passes 2 cs tt e) (four .1)
+      visit-fits (length ms) r (fitting part d ly lu lv (passes 1 cs tt e) (passes 19 cs tt e) (passes 3 cs tt e) (four .0)) (passes 2 cs tt e) (or-false (badNumberCount (d .slicing) (d .size .w * d .size .h)) _ (four .1) .1)
     where
       cs : List (ℕ × Bool)
       cs = visitChecks part d ly lu lv ms r
+
+  pub shared-visit-fits : (ms : List ℕ) (r : At) → Shared part (d .size) r ly lu lv (d .strengths) (d .qps) (d .t8s) ms → VisitFits part d ly lu lv (length ms) r
+  shared-visit-fits ms r k =
+      let e = k .passed in
+      let four = or-false _ _ (passes 4 cs tt e) in
+      visit-fits (length ms) r (fitting part d ly lu lv (passes 1 cs tt e) (passes 19 cs tt e) (passes 3 cs tt e) (four .0)) (passes 2 cs tt e) (or-false (k .other) _ (four .1) .1)
+    where
+      cs : List (ℕ × Bool)
+      cs = sharedVisitChecks part (d .size) r (k .other) (k .six) ly lu lv (d .strengths) (d .qps) (d .t8s) ms
 
   module _ (lm : ℕ) (r : At) (g : VisitFits part d ly lu lv lm r) where
     pub index : r .1 * d .size .w + r .0 < d .size .w * d .size .h

@@ -8,13 +8,14 @@ use native.Mathlib.Omega.{arith}
 use lib.ListN.{length, getD, length-replicate}
 use Rattle.laws.specs.Some.{some}
 use Rattle.laws.specs.Places.{Plane}
+use Rattle.edges.specs.Cases.{noOffsets}
 use Rattle.edges.specs.Picture.{Planes, stepOf}
 use Rattle.visits.specs.Visit.{At, State, fresh, answer, itself}
 use Rattle.visits.specs.AnyOrder.{Demand3}
 use Rattle.visits.specs.Old.{oldVisit}
 use Rattle.pictures.specs.Checks.{Lent, lent, heldOf, someBad}
 use Rattle.sizes.specs.declared.Part.the-variants.{Frame}
-use Rattle.visits.specs.Checks.{badMarks, badQps, earlyIn, earlyOf, Sound, Fit}
+use Rattle.visits.specs.Checks.{badMarks, badAround, earlyIn, earlyOf, Sound, Fit}
 use Rattle.visits.specs.Promise.{VisitOutcome}
 use Rattle.visits.specs.Smallest.{oneLent, onePlanes, pairLent, pairPlanes}
 use Rattle.visits.specs.Fault.{band, faultLent}
@@ -60,8 +61,8 @@ marked-as-waiting = refused.marked-as-waiting pairStep (earlyOf pairLent) pairPl
 
 -- lets QP 52 to the left pass check 8
 pub left-qp-52 : (t : State Planes)
-    → VisitOutcome Frame (lent (pairLent .size) (pairLent .offsets) (pairLent .strengths) (52 ∷ 40 ∷ []) []) (pairPlanes, 1 ∷ 0 ∷ []) (1, 0) 0 t → ⊥
-unfolding answer earlyIn badMarks badQps someBad some band
+    → VisitOutcome Frame (lent (pairLent .size) noOffsets (pairLent .strengths) (52 ∷ 40 ∷ []) []) (pairPlanes, 1 ∷ 0 ∷ []) (1, 0) 0 t → ⊥
+unfolding answer earlyIn badMarks badAround someBad some band
 left-qp-52 t o = let k : _≡_ {A = ℕ} 0 8 = o .number in omega arith
 
 -- sets its mark though it refuses

@@ -11,6 +11,11 @@ use Rattle.laws.specs.Places.{Plane}
 use Rattle.laws.specs.Raster.{Marked}
 use Rattle.edges.specs.Picture.{Planes}
 use Rattle.sizes.specs.declared.Part.the-variants.{Frame}
+use Rattle.edges.specs.declared.Offsets.{Offsets}
+use Rattle.slices.specs.Slicing.{Slicing, single, sliced, badSliceOffset, badSliceMode}
+use Rattle.slices.specs.Table.{recordOf}
+use Rattle.slices.specs.declared.ChromaOffsets.{ChromaOffsets}
+use Rattle.slices.specs.declared.SliceRecord.{SliceRecord}
 use Rattle.pictures.specs.Checks.{Lent}
 use Rattle.visits.specs.Visit.{At, State, run, answers}
 use Rattle.visits.specs.Promise.{visitOf, unvisited, VisitOutcome}
@@ -35,10 +40,25 @@ abbrev pub OffFoot : ℕ → ℕ → ℕ → ℕ → Type 0
 OffFoot W i N p = Foot N W i p → ⊥
 
 -- ---- what is lent beside planes and marks
--- the same size and offsets, and grids of the same lengths
+-- the table and the numbers of slices: for one pair of offsets there are none
+abbrev pub tableOf : Slicing → List SliceRecord
+tableOf (single o) = []
+tableOf (sliced c t ns) = t
+
+abbrev pub numbersOf : Slicing → List ℕ
+numbersOf (single o) = []
+numbersOf (sliced c t ns) = ns
+
+-- the same offsets for the picture, or slices with the same chroma offsets and as many numbers; the tables
+-- may differ
+pub data SameKind : Slicing → Slicing → Type 0 where
+  both-single : {o : Offsets} → SameKind (single o) (single o)
+  both-sliced : {c : ChromaOffsets} {t u : List SliceRecord} {ns ms : List ℕ} → length ns ≡ length ms → SameKind (sliced c t ns) (sliced c u ms)
+
+-- the same size, offsets as above, and grids of the same lengths
 pub record SameShape (d e : Lent) : Type 0 where
   pub size : d .size ≡ e .size
-  pub offsets : d .offsets ≡ e .offsets
+  pub slicing : SameKind (d .slicing) (e .slicing)
   pub strengths : length (d .strengths) ≡ length (e .strengths)
   pub qps : length (d .qps) ≡ length (e .qps)
   pub t8s : length (d .t8s) ≡ length (e .t8s)
@@ -46,23 +66,40 @@ pub record SameShape (d e : Lent) : Type 0 where
 abbrev pub SameEntry : List ℕ → List ℕ → ℕ → Type 0
 SameEntry xs ys i = getD xs i 0 ≡ getD ys i 0
 
--- of macroblock i the same 32 strengths, the same flag and the same QP
+-- of macroblock i the same QP and the same slice number: what visits of its neighbours read too
+pub record SameNear (d e : Lent) (i : ℕ) : Type 0 where
+  pub qp : SameEntry (d .qps) (e .qps) i
+  pub number : SameEntry (numbersOf (d .slicing)) (numbersOf (e .slicing)) i
+
+-- .. and the same 32 strengths, the same flag, and the same record of its slice
 pub record SameData (d e : Lent) (i : ℕ) : Type 0 where
+  pub near : SameNear d e i
   pub strengths : (k : ℕ) → k < 32 → SameEntry (d .strengths) (e .strengths) (32 * i + k)
   pub flag : SameEntry (d .t8s) (e .t8s) i
-  pub qp : SameEntry (d .qps) (e .qps) i
+  pub slice : recordOf (tableOf (d .slicing)) (getD (numbersOf (d .slicing)) i 0) ≡ recordOf (tableOf (e .slicing)) (getD (numbersOf (e .slicing)) i 0)
+
+-- of the tables: as many records, and checks 6 and 21 come to the same
+pub record SameTable (d e : Lent) : Type 0 where
+  pub count : length (tableOf (d .slicing)) ≡ length (tableOf (e .slicing))
+  pub range : badSliceOffset (d .slicing) ≡ badSliceOffset (e .slicing)
+  pub mode : badSliceMode (d .slicing) ≡ badSliceMode (e .slicing)
 
 -- the macroblock that a request names
 abbrev pub ofRequest : Lent → At → ℕ
 ofRequest d r = r .1 * d .size .w + r .0
 
--- what a visit of r reads of all that: the data of its macroblock, and the QPs of the left and the upper
--- neighbour where these exist
-pub record SameLent (d e : Lent) (r : At) : Type 0 where
+-- what a visit of r filters by: the data of its macroblock, and the QPs and slice numbers of the left and the
+-- upper neighbour where these exist
+pub record SameAround (d e : Lent) (r : At) : Type 0 where
   pub shape : SameShape d e
   pub own : SameData d e (ofRequest d r)
-  pub left : 0 < r .0 → SameEntry (d .qps) (e .qps) (ofRequest d r - 1)
-  pub upper : 0 < r .1 → SameEntry (d .qps) (e .qps) (ofRequest d r - d .size .w)
+  pub left : 0 < r .0 → SameNear d e (ofRequest d r - 1)
+  pub upper : 0 < r .1 → SameNear d e (ofRequest d r - d .size .w)
+
+-- .. and all that it reads, since checks 6 and 21 look at the whole table
+pub record SameLent (d e : Lent) (r : At) : Type 0 where
+  pub around : SameAround d e r
+  pub table : SameTable d e
 
 -- ---- marks
 -- as many marks, and the same own, left, upper and upper right mark, where these neighbours exist
@@ -97,19 +134,28 @@ pub record RestStays (d : Lent) (s : State Planes) (r : At) : Type 0 where
 abbrev pub SamplesOf : ℕ → (ℕ → Type 0) → ℕ → ℕ → Type 0
 SamplesOf W M N p = M (p / (N * W) / N * W + p % (N * W) / N)
 
+-- a visit is not refused for an offset of a record (6), a flag (7), a QP (8), a strength (9), a slice number
+-- (20) or a mode (21)
+pub record Legal (n : ℕ) : Type 0 where
+  pub offset : n ≢ 6
+  pub flag : n ≢ 7
+  pub qp : n ≢ 8
+  pub strength : n ≢ 9
+  pub number : n ≢ 20
+  pub mode : n ≢ 21
+
 -- d and start are all the data, each as it is once it has arrived. In the state s, which the last call left,
 -- the caller lends e and the planes p for a visit of r, which answers n. It may have written anything since,
 -- but for this:
 pub record Lends (d : Lent) (start : Planes) (s : State Planes) (r : At) (n : ℕ) (e : Lent) (p : Planes) : Type 0 where
-  -- size, offsets and lengths stay
+  -- size, offsets of the picture and lengths of grids stay
   pub shape : SameShape d e
-  -- of a marked macroblock the samples and the QP stay
+  -- of a marked macroblock the samples, the QP and the slice number stay
   pub marked-samples : SameAt (SamplesOf (d .size .w) (Marked (s .1))) (s .0) p
-  pub marked-qps : (i : ℕ) → Marked (s .1) i → SameEntry (d .qps) (e .qps) i
-  -- what stands where nothing has arrived yet is no reason to refuse the visit: it is not refused for a flag
-  -- (7), a QP (8) or a strength (9)
-  pub legal : (n ≢ 7) × (n ≢ 8) × (n ≢ 9)
-  -- where the visit is done, all of its macroblock has arrived
+  pub marked-near : (i : ℕ) → Marked (s .1) i → SameNear d e i
+  -- what stands where nothing has arrived yet is no reason to refuse the visit
+  pub legal : Legal n
+  -- where the visit is done, all of its macroblock has arrived, its slice's record too
   pub own-samples : n ≡ 0 → SameAt (SamplesOf (d .size .w) (λ i. i ≡ ofRequest d r)) start p
   pub own-data : n ≡ 0 → SameData d e (ofRequest d r)
 
@@ -134,7 +180,7 @@ pub record AsIfThere (d : Lent) (start : Planes) (rs : List At) (said : List ℕ
 -- macroblock i arrives just before call number `when i`
 pub record Writes (d : Lent) (start : Planes) (when : ℕ → ℕ) (k : ℕ) (s : State Planes) (r : At) (n : ℕ) (e : Lent) (p : Planes) : Type 0 where
   pub shape : SameShape d e
-  pub legal : (n ≢ 7) × (n ≢ 8) × (n ≢ 9)
+  pub legal : Legal n
   -- the data of all that has arrived are there, and the samples of what is new; older ones are as the last
   -- call left them
   pub there : (i : ℕ) → when i ≤ k → SameData d e i

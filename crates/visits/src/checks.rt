@@ -5,10 +5,10 @@ ghost use Prim.Native.Nat.{_+_, _*_, _<_, _≤_};
 ghost use lib.Dec.{eqb};
 ghost use lib.ListN.{length};
 ghost use Rattle.laws.specs.Refusal.{refusal};
-ghost use Rattle.pictures.specs.Checks.{lent, entryChecks};
+ghost use Rattle.pictures.specs.Checks.{badQp, entryChecks};
 ghost use Rattle.sizes.specs.Inner.{InPicture};
-ghost use Rattle.visits.specs.Checks.{badMarks, badQps, visitReads, visitChecks};
-use edges::Offsets;
+ghost use Rattle.visits.specs.Checks.{badMarks, badAround, visitReads};
+ghost use Rattle.visits.specs.Inner.{sharedVisitChecks};
 use pictures::checks::any_bad_flag;
 use pictures::checks::any_bad_strength;
 use pictures::checks::refuse_grids;
@@ -31,7 +31,7 @@ fn bad_marks(marks: &[u8], w: usize, x: usize, y: usize) -> bool
 // Check 8.
 fn bad_qps(qps: &[u8], w: usize, x: usize, y: usize) -> bool
     requires { ⌜ InPicture w x y (length (now qps)) ⌝ }
-    ensures { λ r. ⌜ r ≡ badQps (now (qps .entry)) w x y ⌝ }
+    ensures { λ r. ⌜ r ≡ badAround badQp (now (qps .entry)) w x y ⌝ }
 {
     over_near(qps, w, x, y, 51)
 }
@@ -47,7 +47,7 @@ fn refuse_visit_entries(
     marks: &[u8],
 ) -> u32
     requires { ⌜ InPicture w x y (length (now marks)) × InPicture w x y (length (now qps)) × InPicture w x y 36864 × (32 * (y * w + x) + 32 ≤ length (now strengths)) × (eqb (length (now t8s)) 0 ≡ false → y * w + x < length (now t8s)) ⌝ }
-    ensures { λ r. ⌜ r ≡ refusal (entryChecks (visitReads w (now (strengths .entry)) (now (qps .entry)) (now (t8s .entry)) (now (marks .entry)) (x, y))) ⌝ }
+    ensures { λ r. ⌜ r ≡ refusal (entryChecks (now (qps .entry)) (visitReads w (now (strengths .entry)) (now (t8s .entry)) (now (marks .entry)) (x, y))) ⌝ }
 {
     let i = y * w + x;
     let flag = any_bad_flag(t8s, i, i + 1);
@@ -64,13 +64,15 @@ fn refuse_visit_entries(
     0
 }
 
-// All of them; luma, u, v are the lengths of the planes.
+// All of them but those of slices; luma, u, v are the lengths of the planes. `other`: a grid of slices has
+// the wrong length; `six`: check 6 applies.
 pub fn refuse_early(
     part: Part,
     size: Size,
     x: usize,
     y: usize,
-    o: Offsets,
+    other: bool,
+    six: bool,
     luma: usize,
     u: usize,
     v: usize,
@@ -79,7 +81,7 @@ pub fn refuse_early(
     t8s: &[u8],
     marks: &[u8],
 ) -> u32
-    ensures { λ r. ⌜ r ≡ refusal (visitChecks part (lent size o (now (strengths .entry)) (now (qps .entry)) (now (t8s .entry))) luma u v (now (marks .entry)) (x, y)) ⌝ }
+    ensures { λ r. ⌜ r ≡ refusal (sharedVisitChecks part size (x, y) other six luma u v (now (strengths .entry)) (now (qps .entry)) (now (t8s .entry)) (now (marks .entry))) ⌝ }
 {
     let w = size.w;
     let h = size.h;
@@ -93,8 +95,8 @@ pub fn refuse_early(
         strengths.len(),
         qps.len(),
         t8s.len(),
-        marks.len() != n,
-        o,
+        other | (marks.len() != n),
+        six,
     );
     if m != 0 {
         return m;

@@ -1,45 +1,20 @@
 // A visit of a picture, which is a frame or a field of one, and visits replayed: `size` and marks are the
 // picture's, the planes are the frame's. Neither asks anything of its caller; a refusal changes no byte.
 ghost use mathlib.Core.Path.{_≡_};
-ghost use mathlib.Core.Bool.{true, not, _&&_};
-ghost use Prim.Native.Nat.{_-_, _<_, _≤_};
-ghost use lib.Dec.{eqb};
-ghost use lib.ListN.{length, getD};
+ghost use lib.ListN.{length};
 ghost use Rattle.edges.specs.Picture.{planes};
 ghost use Rattle.pictures.specs.Checks.{lent};
-ghost use Rattle.sizes.specs.Inner.{InPicture};
 ghost use Rattle.visits.specs.Inner.{Replayed};
 ghost use Rattle.visits.specs.Promise.{VisitOutcome, ReplayOutcome};
-ghost use Rattle.visits.specs.Visit.{waiting};
 use crate::checks::refuse_early;
+use crate::readiness::waits;
 use edges::Offsets;
+use edges::picture::every_edge;
 use edges::picture::macroblock;
 use lines::tables::all;
 use sizes::Part;
 use sizes::Size;
-
-// Where there is a neighbour d places before i, it is unmarked.
-fn lacks(there: bool, marks: &[u8], i: usize, d: usize) -> bool
-    requires { ⌜ (i < length (now marks)) × (there ≡ true → d ≤ i) ⌝ }
-    ensures { λ r. ⌜ r ≡ (there && not (eqb (getD (now (marks .entry)) (i - d) 0) 1)) ⌝ }
-{
-    if there {
-        return marks[i - d] != 1;
-    }
-    false
-}
-
-// Check 14.
-fn waits(marks: &[u8], w: usize, x: usize, y: usize) -> bool
-    requires { ⌜ InPicture w x y (length (now marks)) ⌝ }
-    ensures { λ r. ⌜ r ≡ waiting w (now (marks .entry)) x y ⌝ }
-{
-    let i = y * w + x;
-    let left = lacks(0 < x, marks, i, 1);
-    let upper = lacks(0 < y, marks, i, w);
-    let upper_right = lacks((0 < y) & (x + 1 < w), marks, i, w - 1);
-    left | upper | upper_right
-}
+use slices::rules::bad_offsets;
 
 // Macroblock (x, y) filtered and marked, or a refusal.
 pub fn visit(
@@ -63,7 +38,8 @@ pub fn visit(
         size,
         x,
         y,
-        o,
+        false,
+        bad_offsets(o),
         luma.len(),
         u.len(),
         v.len(),
@@ -84,7 +60,8 @@ pub fn visit(
         return 14;
     }
     let t = all();
-    macroblock(luma, u, v, &t, part, w, x, y, qps, t8s, strengths, o);
+    let on = every_edge();
+    macroblock(luma, u, v, &t, part, w, x, y, qps, t8s, strengths, o, on);
     marks[i] = 1;
     0
 }

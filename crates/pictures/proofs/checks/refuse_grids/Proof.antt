@@ -17,6 +17,5 @@ refuse-grids-spec =
     (tie.spec
     (λ c κs. search needs)
     (λ c. stop _ _ (sym (λ i. c .before .bad-lent .ensures i || c .before .before .args .other) ∙ c .if1 .taken))
-    (λ c κs. search needs)
-    (λ c. skip _ (four (c .before .before)) (stop _ _ (sym (c .before .bad-offsets .ensures) ∙ c .if2 .taken)))
-    (λ c. skip _ (four (c .before .before)) (skip _ (sym (c .before .bad-offsets .ensures) ∙ c .if2 .left) refl)))
+    (λ c. skip _ (four (c .before)) (stop _ _ (c .if2 .taken)))
+    (λ c. skip _ (four (c .before)) (skip _ (c .if2 .left) refl)))

@@ -1,11 +1,11 @@
 -- `bad_qps`: the entries read are those of the definition. Assumes nothing.
 use borrow.Author.Needs.{needs}
-use Rattle.visits.specs.Checks.{badQps}
+use Rattle.visits.specs.Checks.{badAround}
 use Rattle.visits.proofs.checks.bad_qps.Statement.{statement}
 use Rattle.visits.proofs.checks.bad_qps.Tie as tie
 
 returns : tie.Need-returns
-unfolding badQps
+unfolding badAround
 returns c = c .over-near .ensures
 
 pub bad-qps-spec : {M : Type 1} → statement M

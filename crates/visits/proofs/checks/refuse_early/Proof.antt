@@ -2,7 +2,7 @@
 -- nothing.
 use borrow.Author.Needs.{needs}
 use mathlib.Core.Path.{_≡_, sym, _∙_}
-use mathlib.Core.Bool.{Bool, not}
+use mathlib.Core.Bool.{Bool, not, _||_}
 use mathlib.Core.List.{List, _++_}
 use Prim.Native.Nat.{ℕ, _*_}
 use native.Mathlib.Omega.{arith}
@@ -11,6 +11,7 @@ use lib.ListN.{length}
 use Rattle.laws.specs.Refusal.{refusal}
 use Rattle.laws.proofs.Bools.{or-false}
 use Rattle.laws.proofs.Refusal.{first-applies, first-passed, passes}
+use Rattle.edges.specs.Cases.{noOffsets}
 use Rattle.sizes.specs.Sizes.{outsideOf}
 use Rattle.sizes.proofs.Sized.{Sized, sized}
 use Rattle.pictures.specs.Checks.{Lent, lent, pictureChecks, gridChecks, entryChecks}
@@ -28,10 +29,10 @@ abbrev grids : tie.Start → List (ℕ × Bool)
 grids s =
     let a = s .args in
     let n = a .size .w * a .size .h in
-    gridChecks n (length (a .strengths .now)) (length (a .qps .now)) (length (a .t8s .now)) (not (eqb (length (a .marks .now)) n)) (a .o)
+    gridChecks n (length (a .strengths .now)) (length (a .qps .now)) (length (a .t8s .now)) (a .other || not (eqb (length (a .marks .now)) n)) (a .six)
 
 abbrev entries : tie.Start → List (ℕ × Bool)
-entries s = let a = s .args in entryChecks (visitReads (a .size .w) (a .strengths .now) (a .qps .now) (a .t8s .now) (a .marks .now) (a .x, a .y))
+entries s = let a = s .args in entryChecks (a .qps .now) (visitReads (a .size .w) (a .strengths .now) (a .t8s .now) (a .marks .now) (a .x, a .y))
 
 -- where the call goes on after the first group, and after the second
 abbrev start : tie.Else1 → tie.Start
@@ -46,8 +47,9 @@ small c = sized (start c .args .size) (passes 1 (picture (start c)) tt (zero c))
 zero-2 : (c : tie.Else2) → refusal (grids (start (c .before .before))) ≡ 0
 zero-2 c = sym (c .before .refuse-grids .ensures) ∙ c .if2 .left
 
+-- of what is lent the offsets and slices do not matter here
 abbrev data-of : tie.Start → Lent
-data-of s = let a = s .args in lent (a .size) (a .o) (a .strengths .now) (a .qps .now) (a .t8s .now)
+data-of s = let a = s .args in lent (a .size) noOffsets (a .strengths .now) (a .qps .now) (a .t8s .now)
 
 ok : (c : tie.Else2) → let s = start (c .before .before) in let a = s .args in VisitFits (a .part) (data-of s) (a .luma) (a .u) (a .v) (length (a .marks .now)) (a .x, a .y)
 ok c =
@@ -56,7 +58,7 @@ ok c =
     let z = zero (c .before .before) in
     let four = or-false _ _ (passes 4 (grids s) tt (zero-2 c)) in
     visit-fits (a .part) (data-of s) (a .luma) (a .u) (a .v) (length (a .marks .now)) (a .x, a .y)
-    (fitting (a .part) (data-of s) (a .luma) (a .u) (a .v) (passes 1 (picture s) tt z) (passes 19 (picture s) tt z) (passes 3 (picture s) tt z) (four .0)) (passes 2 (picture s) tt z) (four .1)
+    (fitting (a .part) (data-of s) (a .luma) (a .u) (a .v) (passes 1 (picture s) tt z) (passes 19 (picture s) tt z) (passes 3 (picture s) tt z) (four .0)) (passes 2 (picture s) tt z) (or-false (a .other) _ (four .1) .1)
 
 returns : tie.Need-returns
 returns c =

@@ -5,8 +5,8 @@ use mathlib.Core.Bool.{false, _||_}
 use Prim.Native.Nat.{_+_, _*_}
 use native.Mathlib.Omega.{arith}
 use Rattle.laws.proofs.Refusal.{skip, stop}
-use Rattle.pictures.specs.Checks.{someBadFlag}
-use Rattle.visits.specs.Checks.{badMarks, badQps}
+use Rattle.pictures.specs.Checks.{badQp, someBadFlag}
+use Rattle.visits.specs.Checks.{badMarks, badAround}
 use Rattle.visits.proofs.checks.refuse_visit_entries.Statement.{statement}
 use Rattle.visits.proofs.checks.refuse_visit_entries.Tie as tie
 
@@ -18,7 +18,7 @@ seven : (c : tie.Else1) → let a = start c .args in let i = a .y * a .w + a .x 
 seven c = sym (λ i. c .before .before .any-bad-flag .ensures i || c .before .bad-marks .ensures i) ∙ c .if1 .left
 
 -- check 8 too
-eight : (c : tie.Else2) → let a = start (c .before .before) .args in badQps (a .qps .now) (a .w) (a .x) (a .y) ≡ false
+eight : (c : tie.Else2) → let a = start (c .before .before) .args in badAround badQp (a .qps .now) (a .w) (a .x) (a .y) ≡ false
 eight c = sym (c .before .bad-qps .ensures) ∙ c .if2 .left
 
 flag : tie.Need-any-bad-flag-requires

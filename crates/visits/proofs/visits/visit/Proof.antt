@@ -1,17 +1,23 @@
 -- `visit`: the four ways out are those of the promise. Assumes nothing.
 use borrow.Author.Needs.{needs}
 use borrow.Author.Tests.{eq-eqb, ne-eqb}
-use mathlib.Core.Path.{_≡_, refl, sym, _∙_}
+use mathlib.Core.Path.{_≡_, refl, sym, ap, _∙_}
+use mathlib.Core.Bool.{Bool, false}
 use Prim.Native.Nat.{_+_, _*_, _<_}
 use native.Mathlib.Omega.{arith}
 use lib.ListN.{length}
-use Rattle.edges.specs.Picture.{Planes, planes}
+use Rattle.laws.specs.Refusal.{refusal}
+use Rattle.edges.specs.Alike.{heldAs}
+use Rattle.edges.specs.Laid.{layoutOf, laidMb}
+use Rattle.edges.specs.Picture.{Planes, planes, entries}
+use Rattle.edges.specs.declared.EdgesOn.{EdgesOn}
 use Rattle.edges.specs.Fields.{onPart}
 use Rattle.edges.proofs.OnPart.{mb-on-part}
 use Rattle.edges.proofs.Pictures.{step-index}
 use Rattle.visits.specs.Visit.{At, State}
 use Rattle.pictures.specs.Checks.{Lent, lent, heldOf}
 use Rattle.visits.specs.Checks.{earlyIn}
+use Rattle.visits.specs.Inner.{sharedVisitChecks}
 use Rattle.visits.proofs.Outcome.{answer-early, answer-13, answer-14, answer-0, refused-outcome, done-outcome}
 use Rattle.visits.proofs.VisitFits.{VisitFits, checked-visit-fits, index, in-picture, room}
 use Rattle.visits.proofs.visits.visit.Statement.{statement}
@@ -26,13 +32,25 @@ state s = let a = s .args in (planes (a .luma .now) (a .u .now) (a .v .now), a .
 abbrev asked : tie.Start → At
 asked s = (s .args .x, s .args .y)
 
+-- the checks, made with what `bad_offsets` told
+abbrev first : tie.After-refuse-early → tie.Start
+first c = c .before .before .before .before .before .before .before .before .before .before
+
+early : (c : tie.After-refuse-early) → let s = first c in c .refuse-early .result ≡ earlyIn (s .args .part) (data-of s) (state s) (asked s)
+unfolding earlyIn
+early c =
+    let s = first c in
+    let a = s .args in
+    c .refuse-early .ensures
+    ∙ ap (λ (six : Bool). refusal (sharedVisitChecks (a .part) (a .size) (asked s) false six (length (a .luma .now)) (length (a .u .now)) (length (a .v .now)) (a .strengths .now) (a .qps .now) (a .t8s .now) (a .marks .now)))
+    (c .before .before .bad-offsets .ensures)
+
 -- where the call goes on after the earlier checks
 abbrev start : tie.Else1 → tie.Start
-start c = c .before .before .before .before .before .before .before .before .before .before
+start c = first (c .before)
 
 zero : (c : tie.Else1) → let s = start c in earlyIn (s .args .part) (data-of s) (state s) (asked s) ≡ 0
-unfolding earlyIn
-zero c = sym (c .before .refuse-early .ensures) ∙ c .if1 .left
+zero c = sym (early (c .before)) ∙ c .if1 .left
 
 ok : (c : tie.Else1) → let s = start c in let a = s .args in
     VisitFits (a .part) (data-of s) (length (a .luma .now)) (length (a .u .now)) (length (a .v .now)) (length (a .marks .now)) (asked s)
@@ -44,10 +62,9 @@ place c = let s = start c in index (s .args .part) (data-of s) _ _ _ _ (asked s)
 
 -- a refusal before 13
 returns : tie.Need-returns
-unfolding earlyIn
 returns c =
-    let s = c .before .before .before .before .before .before .before .before .before .before in
-    let e = c .before .refuse-early .ensures in
+    let s = first (c .before) in
+    let e = early (c .before) in
     refused-outcome
     (answer-early (s .args .size .w) (earlyIn (s .args .part) (data-of s)) (state s) (asked s) (λ k. c .if1 .taken (e ∙ k)) ∙ sym e) (c .if1 .taken)
 
@@ -82,7 +99,7 @@ before-three c = c .before .before .before
 
 macroblock-requires : tie.Need-macroblock-requires
 macroblock-requires c κs =
-    let all = c .before .before .before .before in
+    let all = c .before .before .before .before .before in
     let f = past (before-three (all .before)) in
     let s = start f in
     (all .all .ensures, (ok f .fit .parity, omega (arith, ok f .column), room (s .args .part) (data-of s) _ _ _ _ (asked s) (ok f)))
@@ -90,7 +107,8 @@ macroblock-requires c κs =
 returns-4 : tie.Need-returns-4
 returns-4 c =
     let m = c .before .before .before .before .before .before in
-    let three = m .before .before .before .before .before .before in
+    let on = m .before .before .before .before .before in
+    let three = on .before .before in
     let two = before-three three in
     let f = past two in
     let s = start f in
@@ -99,6 +117,7 @@ returns-4 c =
     done-outcome
     (answer-0 (s .args .size .w) (earlyIn (s .args .part) (data-of s)) (state s) (asked s) (zero f) (ne-eqb _ 1 (two .if2 .left)) (sym (three .before .waits .ensures) ∙ three .if3 .left))
     (m .macroblock .ensures
+    ∙ ap (λ (k : EdgesOn). laidMb (heldAs (a .size .w) (entries (a .strengths .now)) (a .qps .now) (a .t8s .now) (a .o) k) (layoutOf (a .part)) (a .x) (a .y) (state s .0)) (on .every-edge .ensures)
     ∙ mb-on-part (heldOf (data-of s)) (a .size .h) (g .fit .sides .both .wide) (a .part) (g .fit .parity) (a .x) (a .y) (g .column) (g .row) (state s .0)
     (record { luma = g .fit .luma; u = g .fit .u; v = g .fit .v })
     ∙ (λ i. onPart (a .part) (a .size) (λ t. sym (step-index (heldOf (data-of s)) (a .x) (a .y) (g .column) t) i) (state s .0)))
@@ -108,6 +127,7 @@ pub visit-spec : {M : Type 1} → statement M
 visit-spec =
     tie.close
     (tie.spec
+    (λ c κs. search needs)
     (λ c κs. search needs)
     (λ c. search needs)
     returns
@@ -120,9 +140,10 @@ visit-spec =
     (λ c. search needs)
     returns-3
     (λ c κs. search needs)
+    (λ c κs. search needs)
     macroblock-requires
     (λ c.
-    let f = past (before-three (c .before .before .before .before .before .before .before .before .before .before .before .before)) in
+    let f = past (before-three (c .before .before .before .before .before .before .before .before .before .before .before .before .before)) in
     omega (arith, place f, ok f .marks))
     (λ c. search needs)
     (λ c. search needs)

@@ -5,8 +5,8 @@ use native.Mathlib.Omega.{arith}
 use lib.Dec.{ltb}
 use Rattle.laws.proofs.Bools.{and-true}
 use Rattle.laws.proofs.Grid.{row-pos}
-use Rattle.pictures.proofs.rows.qps_from.Statement.{statement}
-use Rattle.pictures.proofs.rows.qps_from.Tie as tie
+use Rattle.pictures.proofs.row_checks.qps_from.Statement.{statement}
+use Rattle.pictures.proofs.row_checks.qps_from.Tie as tie
 
 sub : tie.Need-sub-result
 sub c = let a = c .before .args in omega (arith, row-pos (a .a) (a .w) (ltb-true 0 (a .a) (and-true (ltb 0 (a .a)) (ltb (a .a) (a .b)) (c .if1 .taken) .0)))

@@ -8,8 +8,8 @@ use Rattle.laws.proofs.Refusal.{skip, stop}
 use Rattle.pictures.specs.Checks.{badQp, someBad, someBadFlag}
 use Rattle.pictures.specs.Rows.{qpsFrom}
 use Rattle.pictures.proofs.RowBounds.{first-le, from-le}
-use Rattle.pictures.proofs.rows.refuse_row_entries.Statement.{statement}
-use Rattle.pictures.proofs.rows.refuse_row_entries.Tie as tie
+use Rattle.pictures.proofs.row_checks.refuse_row_entries.Statement.{statement}
+use Rattle.pictures.proofs.row_checks.refuse_row_entries.Tie as tie
 
 flags : tie.Need-any-bad-flag-requires
 flags c κs = let s = c .before .before .before in let a = s .args in (first-le (a .w) (a .a) (a .b) (s .pre .0 .0), s .pre .1 .1 .1)

@@ -1,7 +1,7 @@
 -- `lacks`: each return is its case of the test. Assumes nothing.
 use native.Mathlib.Omega.{arith}
-use Rattle.visits.proofs.visits.lacks.Statement.{statement}
-use Rattle.visits.proofs.visits.lacks.Tie as tie
+use Rattle.visits.proofs.readiness.lacks.Statement.{statement}
+use Rattle.visits.proofs.readiness.lacks.Tie as tie
 
 pub lacks-spec : {M : Type 1} → statement M
 lacks-spec =

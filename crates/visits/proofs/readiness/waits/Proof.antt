@@ -10,8 +10,8 @@ use lib.ListN.{getD}
 use Rattle.laws.proofs.Grid.{row-pos}
 use Rattle.laws.proofs.Bools.{and-true, and-parts, guarded}
 use Rattle.visits.proofs.Outcome.{waiting-by-index}
-use Rattle.visits.proofs.visits.waits.Statement.{statement}
-use Rattle.visits.proofs.visits.waits.Tie as tie
+use Rattle.visits.proofs.readiness.waits.Statement.{statement}
+use Rattle.visits.proofs.readiness.waits.Tie as tie
 
 upper : tie.Need-lacks-requires-2
 upper c κs =

@@ -2,7 +2,7 @@
 -- nothing.
 use borrow.Author.Needs.{needs}
 use mathlib.Core.Path.{_≡_, sym, _∙_}
-use mathlib.Core.Bool.{Bool, false}
+use mathlib.Core.Bool.{Bool}
 use mathlib.Core.List.{List, _++_}
 use Prim.Native.Nat.{ℕ, _*_}
 use native.Mathlib.Omega.{arith}
@@ -10,23 +10,24 @@ use lib.ListN.{length}
 use Rattle.laws.specs.Refusal.{refusal}
 use Rattle.laws.proofs.Bools.{or-false}
 use Rattle.laws.proofs.Refusal.{first-applies, first-passed, passes}
+use Rattle.edges.specs.Cases.{noOffsets}
 use Rattle.sizes.proofs.Sized.{Sized, sized}
 use Rattle.pictures.specs.Checks.{Lent, lent, pictureChecks, gridChecks, entryChecks}
 use Rattle.pictures.specs.Rows.{badRange, rowReads}
 use Rattle.pictures.proofs.Fitting.{fitting}
 use Rattle.pictures.proofs.RowCalls.{RowsFit, rows-fit, ends}
-use Rattle.pictures.proofs.rows.refuse_rows.Statement.{statement}
-use Rattle.pictures.proofs.rows.refuse_rows.Tie as tie
+use Rattle.pictures.proofs.row_checks.refuse_rows.Statement.{statement}
+use Rattle.pictures.proofs.row_checks.refuse_rows.Tie as tie
 
 -- the three groups
 abbrev picture : tie.Start → List (ℕ × Bool)
 picture s = let a = s .args in pictureChecks (a .part) (a .size) (badRange (a .size) (a .a) (a .b)) (a .luma) (a .u) (a .v)
 
 abbrev grids : tie.Start → List (ℕ × Bool)
-grids s = let a = s .args in gridChecks (a .size .w * a .size .h) (length (a .strengths .now)) (length (a .qps .now)) (length (a .t8s .now)) false (a .o)
+grids s = let a = s .args in gridChecks (a .size .w * a .size .h) (length (a .strengths .now)) (length (a .qps .now)) (length (a .t8s .now)) (a .other) (a .six)
 
 abbrev entries : tie.Start → List (ℕ × Bool)
-entries s = let a = s .args in entryChecks (rowReads (a .size .w) (a .a) (a .b) (a .strengths .now) (a .qps .now) (a .t8s .now))
+entries s = let a = s .args in entryChecks (a .qps .now) (rowReads (a .size .w) (a .a) (a .b) (a .strengths .now) (a .t8s .now))
 
 -- where the call goes on after the first group, and after the second
 abbrev start : tie.Else1 → tie.Start
@@ -41,8 +42,9 @@ small c = sized (start c .args .size) (passes 1 (picture (start c)) tt (zero c))
 zero-2 : (c : tie.Else2) → refusal (grids (start (c .before .before))) ≡ 0
 zero-2 c = sym (c .before .refuse-grids .ensures) ∙ c .if2 .left
 
+-- of what is lent the offsets and slices do not matter here
 abbrev data-of : tie.Start → Lent
-data-of s = let a = s .args in lent (a .size) (a .o) (a .strengths .now) (a .qps .now) (a .t8s .now)
+data-of s = let a = s .args in lent (a .size) noOffsets (a .strengths .now) (a .qps .now) (a .t8s .now)
 
 ok : (c : tie.Else2) → let s = start (c .before .before) in let a = s .args in RowsFit (a .part) (data-of s) (a .a) (a .b) (a .luma) (a .u) (a .v)
 ok c =

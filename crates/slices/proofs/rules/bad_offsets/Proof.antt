@@ -4,9 +4,9 @@ use mathlib.Core.Path.{refl, ap, _∙_}
 use mathlib.Core.Bool.{_||_}
 use mir.Syntax.{w32}
 use Rattle.laws.proofs.Num.{result}
-use Rattle.pictures.specs.Checks.{badOffset}
-use Rattle.pictures.proofs.checks.bad_offsets.Statement.{statement}
-use Rattle.pictures.proofs.checks.bad_offsets.Tie as tie
+use Rattle.slices.specs.Table.{badOffset}
+use Rattle.slices.proofs.rules.bad_offsets.Statement.{statement}
+use Rattle.slices.proofs.rules.bad_offsets.Tie as tie
 
 returns : tie.Need-returns
 returns c =

@@ -1,0 +1,3 @@
+pub mod Inner
+pub mod Slicing
+pub mod Table

@@ -1,0 +1,10 @@
+pub mod Examples
+pub mod FilterRowsSlicesLaws
+pub mod Fits
+pub mod Refused
+pub mod ReplayFieldsSlicesLaws
+pub mod ReplaySlicesLaws
+pub mod Replays
+pub mod RowsBy
+pub mod Stretches
+pub mod VisitSlicesLaws

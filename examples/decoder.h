@@ -1,6 +1,7 @@
-/* For examples/slices.c, painter.c and fields.c: a decoder's stand-in, which makes random pictures and the
- * order in which their slices arrive; a picture's memory, how it is lent and how a macroblock of it is
- * copied; and what must hold. All values are legal, though no encoder would choose them so. */
+/* For examples/slices.c, painter.c, fields.c and settings.c: a decoder's stand-in, which makes random
+ * pictures and the order in which their slices arrive; a picture's memory, how it is lent and how a
+ * macroblock of it is copied; and what must hold. All values are legal, though no encoder would choose them
+ * so. */
 #include <stdio.h>
 #include <stdlib.h>
 #include <string.h>

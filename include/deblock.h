@@ -1,12 +1,12 @@
 /* The deblocking filter's C interface: C99 and later, C++17. docs/RULES.md states the rules that it keeps;
  * docs/GUIDE.md, "From C", says how it is used and linked.
  *
- * The archive has twelve flat calls: three that filter, two that tell which macroblocks are final, three that
- * derive strengths, and four for pictures kept as YUV4MPEG2 streams. Each is proved to do what its contract
- * in crates/deblock/src says, for every content of the memory lent. At the end of this file are eight
- * functions over structs, which hand the structs' members on to the first eight of them: start there. They
- * are compiled with the caller and are not proved; examples/tests looks at every argument that they hand on.
- * The four of streams are short and have none.
+ * The archive has fifteen flat calls: six that filter, three of them with slices, two that tell which
+ * macroblocks are final, three that derive strengths, and four for pictures kept as YUV4MPEG2 streams. Each
+ * is proved to do what its contract in crates/deblock/src says, for every content of the memory lent. At the
+ * end of this file are eleven functions over structs, which hand the structs' members on to the first eleven
+ * of them: start there. They are compiled with the caller and are not proved; examples/tests looks at every
+ * argument that they hand on. The four of streams are short and have none.
  *
  * Every call but deblock_y4m_length, which tells a length, answers a number of enum deblock_answer. A number
  * other than 0 is a refusal, and a refusal changes no byte of what was lent.
@@ -15,8 +15,8 @@
  *   - each pointer is valid for the number of elements that follows it, to read, and to write where the
  *     pointer is not const;
  *   - no buffer that a call writes overlaps any other buffer of that call;
- *   - no pointer is null, even where the length is 0 (in the structs it may be), and int16_t and int32_t
- *     pointers are aligned;
+ *   - no pointer is null, even where the length is 0 (in the structs it may be), and uint16_t, int16_t and
+ *     int32_t pointers are aligned;
  *   - nothing else writes the memory lent, or reads what the call writes, until the call returns.
  * A length is a number of elements, not of bytes; it stands right after its pointer.
  *
@@ -26,8 +26,9 @@
  *   - Threads: calls on different pictures may be made at the same time. Two calls that share a buffer which
  *     either of them writes may not: no two visits of one picture, no visit while it is asked what is final,
  *     no filtering of both fields of a frame, no two strength calls that are lent the same strengths, no
- *     filtering while its strengths are written. Buffers that are only read may be shared.
- *   - Stack: a call needs less than 1700 bytes on x86-64, and less than 1300 on Arm, whatever it is lent;
+ *     filtering while its strengths are written. Buffers that are only read may be shared, a table of slices
+ *     and their numbers among them.
+ *   - Stack: a call needs less than 2000 bytes on x86-64, and less than 1800 on Arm, whatever it is lent;
  *     docs/GUIDE.md, "Stack", has each call's bytes and what a function over structs adds.
  *
  * Sizes. A picture is w by h macroblocks, 1 <= w <= 256, 1 <= h <= 256, w * h <= 36864. Macroblock (x, y) has
@@ -45,6 +46,8 @@
  *   ref1, mv1           16 * n and 32 * n, or both 0: list 1
  *   pictures0, pictures1   any   tables: per index of a list its picture's number, 0 to 65535; both 0 means
  *                                that references are compared as stored
+ *   slices                 any   a table: the record of each slice
+ *   numbers                  n   the macroblock's slice: its place in the table, from 0 on
  * The offsets are each -12 to 12. a and b are FilterOffsetA and FilterOffsetB, chroma_u is
  * chroma_qp_index_offset, and chroma_v is second_chroma_qp_index_offset, or chroma_u where a stream has none.
  *
@@ -53,6 +56,12 @@
  * frame's, with the lines of both fields, and a call reads and writes its own field's. All else is lent per
  * field. Vectors are in quarter samples of the field, and a reference names a field: each has a number of its
  * own. docs/GUIDE.md, "Fields", has the calls for an interlaced frame.
+ *
+ * Slices. Where slices switch the filter off, or have an a and b of their own, a picture is filtered by the
+ * three calls whose names end in _slices. They are lent a table of slices' records and the number of each
+ * macroblock's slice, and take no a and b beside it; the other three filter the picture as one slice, of mode
+ * 0. An empty table does not mean that. Numbers tell slices apart: two with equal records are two slices.
+ * docs/GUIDE.md, "Slices", has what may stand in both before a slice has arrived.
  *
  * Streams. A YUV4MPEG2 stream is a header line, which says the size in pixels, and then for each picture a
  * line FRAME and its planes, Y, U and V end to end. The calls below read its first picture and write streams
@@ -66,28 +75,31 @@
 #include <stdint.h>
 
 #define DEBLOCK_VERSION_MAJOR 0
-#define DEBLOCK_VERSION_MINOR 8
+#define DEBLOCK_VERSION_MINOR 9
 #define DEBLOCK_VERSION_PATCH 0
-#define DEBLOCK_VERSION "0.8.0"
+#define DEBLOCK_VERSION "0.9.0"
 
 /* What a call answers. Checks are made in the order of this list, each call making those whose data it takes;
- * the first that applies is the answer. The numbers are not in that order: 19 is asked between 2 and 3, 22
- * between 10 and 11. The calls of streams have orders of their own, which are said with them. */
+ * the first that applies is the answer. The numbers are not in that order: 19 is asked between 2 and 3, 20
+ * and 21 after 9, and 22 between 10 and 11. The calls of streams have orders of their own, which are said
+ * with them. */
 enum deblock_answer {
     DEBLOCK_DONE = 0,
     DEBLOCK_BAD_SIZE = 1,               /* w, h or their product is outside its range */
     DEBLOCK_OUTSIDE = 2,                /* macroblock outside the picture, or not first <= last <= h */
     DEBLOCK_BAD_PARITY = 19,            /* the part is none of enum deblock_part */
     DEBLOCK_PLANE_LENGTH = 3,           /* a plane has the wrong length */
-    DEBLOCK_MACROBLOCK_GRID_LENGTH = 4, /* strengths, qps, t8s or marks have the wrong length */
+    DEBLOCK_MACROBLOCK_GRID_LENGTH = 4, /* strengths, qps, t8s, marks or numbers have the wrong length */
     DEBLOCK_BLOCK_GRID_LENGTH = 5,      /* a 4x4 grid has the wrong length, just one of list 1 is empty, or
-                                           just one table is, unless it is list 1's and list 1 is not lent */
-    DEBLOCK_BAD_OFFSET = 6,             /* one of the four offsets is outside -12..12 */
+                                           just one list's table, unless list 1's, and list 1 is not lent */
+    DEBLOCK_BAD_OFFSET = 6,             /* an offset, or a or b of a record, used or not, is not -12..12 */
     DEBLOCK_NOT_A_BOOL = 7,             /* an inter byte, 8x8 flag or mark that is read is above 1 */
     DEBLOCK_BAD_QP = 8,                 /* a QP that is read is above 51 */
     DEBLOCK_BAD_STRENGTH = 9,           /* a strength that is read is above 4 */
+    DEBLOCK_BAD_SLICE_NUMBER = 20,      /* a slice number that is read is outside the table */
+    DEBLOCK_BAD_SLICE_MODE = 21,        /* a record of the table, used or not, has a mode above 2 */
     DEBLOCK_BAD_REFERENCE = 10,         /* a reference that is read is below -1 */
-    DEBLOCK_BAD_PICTURE_NUMBER = 22,    /* an entry of a table, used or not, is outside 0 to 65535 */
+    DEBLOCK_BAD_PICTURE_NUMBER = 22,    /* an entry of a list's table, used or not, is outside 0 to 65535 */
     DEBLOCK_MIXED_INTER = 11,           /* the 16 blocks, the 4 to the left or the 4 above differ in inter */
     DEBLOCK_UNTRUE = 12,                /* the kind, or a flag that is set, is not true of the grids */
     DEBLOCK_MARKED_ALREADY = 13,        /* the macroblock is marked */
@@ -106,7 +118,7 @@ static inline const char *deblock_answer_text(uint32_t answer)
         "width, height or their product is out of range",
         "the macroblock is outside the picture, or the rows are not first <= last <= h",
         "luma, U or V has the wrong length",
-        "strengths, QPs, 8x8 flags or marks have the wrong length",
+        "strengths, QPs, 8x8 flags, marks or slice numbers have the wrong length",
         "a 4x4 grid has the wrong length, or just one list 1 grid or reference table is empty",
         "an offset is not within -12 to 12",
         "an inter byte, 8x8 flag or mark is not 0 or 1",
@@ -122,12 +134,11 @@ static inline const char *deblock_answer_text(uint32_t answer)
         "a side of the stream's picture is no multiple of 16, or its size is out of range",
         "the stream is cut short, or is not just as long as what is to be written",
         "the part is not a frame, a top field or a bottom field",
-        NULL,
-        NULL,
+        "a slice number is outside the table of slices",
+        "the mode of a slice is not 0, 1 or 2",
         "an entry of a reference table is outside 0 to 65535",
     };
-    const char *text = answer < sizeof texts / sizeof *texts ? texts[answer] : NULL;
-    return text ? text : "no answer of this version";
+    return answer < sizeof texts / sizeof *texts ? texts[answer] : "no answer of this version";
 }
 
 /* What part of a frame the picture is. */
@@ -153,7 +164,7 @@ enum deblock_flag {
 extern "C" {
 #endif
 
-/* The three filtering calls are told of a part, a number of enum deblock_part; any other is refused. */
+/* The filtering calls are told of a part, a number of enum deblock_part; any other is refused. */
 
 /* Filters a whole picture. It neither reads nor sets marks, and called again it filters again.
  * Writes luma, u, v. Answers 0, 1, 19, 3, 4, 6, 7, 8, 9. */
@@ -186,6 +197,64 @@ uint32_t deblock_visit(size_t w, size_t h, uint8_t part, size_t x, size_t y,
                        const uint8_t *strengths, size_t strengths_len,
                        const uint8_t *qps, size_t qps_len, const uint8_t *t8s, size_t t8s_len,
                        uint8_t *marks, size_t marks_len);
+
+/* A slice's settings: disable_deblocking_filter_idc, FilterOffsetA and FilterOffsetB. Three bytes, without
+ * padding between records. */
+struct deblock_slice {
+    uint8_t mode; /* 0 to 2 */
+    int8_t a, b;  /* -12 to 12 */
+};
+
+/* The three filtering calls with slices do what their namesakes above do, each macroblock by the record of
+ * its own slice, slices[numbers[index]]. Its a and b serve all its edges, and its mode says which are
+ * filtered:
+ *   0   all
+ *   1   none
+ *   2   all but its left edge where the left macroblock has another number, and its top edge where the upper
+ *       one has
+ * An edge is that of the macroblock to its right or below it: whatever the mode of a macroblock, the left
+ * edge of its right neighbour and the top edge of its lower one are filtered as the records of these say.
+ *
+ * A mode changes nothing else. Strengths and QPs are checked also where no edge is filtered by them. Numbers
+ * are read where QPs are. Every call looks at every record, used or not: at its a and b in check 6, at its
+ * mode in check 21. Of an empty table every number that is read is outside. With one record of mode 0 and all
+ * numbers 0 the answers and the planes are those of the namesake with that a and b. */
+
+/* Filters a whole picture, as deblock_whole does.
+ * Writes luma, u, v. Answers 0, 1, 19, 3, 4, 6, 7, 8, 9, 20, 21. */
+uint32_t deblock_whole_slices(size_t w, size_t h, uint8_t part, int32_t chroma_u, int32_t chroma_v,
+                              const struct deblock_slice *slices, size_t slices_len,
+                              const uint16_t *numbers, size_t numbers_len,
+                              uint8_t *luma, size_t luma_len, uint8_t *u, size_t u_len,
+                              uint8_t *v, size_t v_len, const uint8_t *strengths, size_t strengths_len,
+                              const uint8_t *qps, size_t qps_len, const uint8_t *t8s, size_t t8s_len);
+
+/* Filters rows first to last - 1, as deblock_rows does. It reads the numbers of those rows, and those of row
+ * first - 1 where 0 < first < last. An empty range that passes the checks up to 6 and check 21 does nothing
+ * and answers 0: it reads no number.
+ * Writes luma, u, v. Answers 0, 1, 2, 19, 3, 4, 6, 7, 8, 9, 20, 21. */
+uint32_t deblock_rows_slices(size_t w, size_t h, uint8_t part, size_t first, size_t last,
+                             int32_t chroma_u, int32_t chroma_v,
+                             const struct deblock_slice *slices, size_t slices_len,
+                             const uint16_t *numbers, size_t numbers_len,
+                             uint8_t *luma, size_t luma_len, uint8_t *u, size_t u_len,
+                             uint8_t *v, size_t v_len, const uint8_t *strengths, size_t strengths_len,
+                             const uint8_t *qps, size_t qps_len, const uint8_t *t8s, size_t t8s_len);
+
+/* Filters macroblock (x, y) and sets its mark, as deblock_visit does. It waits for the same three neighbours
+ * and sets the mark at every mode. It reads the numbers of the macroblock and of its left and upper
+ * neighbours, and filters by one record, that of the macroblock's slice. So a macroblock's number may be
+ * written until its own visit, and a record until the first visit of a macroblock of its slice, and not after
+ * it; before, let every number be inside the table and every record a legal one.
+ * Writes luma, u, v, marks. Answers 0, 1, 2, 19, 3, 4, 6, 7, 8, 9, 20, 21, 13, 14. */
+uint32_t deblock_visit_slices(size_t w, size_t h, uint8_t part, size_t x, size_t y,
+                              int32_t chroma_u, int32_t chroma_v,
+                              const struct deblock_slice *slices, size_t slices_len,
+                              const uint16_t *numbers, size_t numbers_len,
+                              uint8_t *luma, size_t luma_len, uint8_t *u, size_t u_len,
+                              uint8_t *v, size_t v_len, const uint8_t *strengths, size_t strengths_len,
+                              const uint8_t *qps, size_t qps_len, const uint8_t *t8s, size_t t8s_len,
+                              uint8_t *marks, size_t marks_len);
 
 /* The two calls of finality are lent marks as visits leave them, of a frame or of one field, and take no
  * part. A macroblock is final once it, its right and its lower neighbour, as far as they exist, are marked:
@@ -308,7 +377,7 @@ uint32_t deblock_y4m_write(size_t w, size_t h, const uint8_t *luma, size_t luma_
 }
 #endif
 
-/* The first eight calls over structs. Start a struct in static storage or as in `struct deblock_picture p =
+/* The first eleven calls over structs. Start a struct in static storage or as in `struct deblock_picture p =
  * DEBLOCK_NONE;`, and set its members by name. Members that a later version adds are then 0, which will mean
  * what this version does. How these structs are laid out is no part of the archive; how those that calls
  * answer are is.
@@ -336,6 +405,9 @@ struct deblock_picture {
     const uint8_t *qps; size_t qps_len;
     const uint8_t *t8s; size_t t8s_len; /* strength calls and filtering read them */
     uint8_t *marks; size_t marks_len; /* visits write them, and they tell what is final */
+    /* For the functions with slices alone. They do not look at offset_a and offset_b. */
+    const struct deblock_slice *slices; size_t slices_len;
+    const uint16_t *slice_numbers; size_t slice_numbers_len;
 };
 
 /* The 4x4 grids and a table for each list, for strength calls alone. */
@@ -352,11 +424,14 @@ struct deblock_grids {
 
 /* For the functions below: a picture as a flat call may be lent it. Where a pointer is null it gets a byte
  * that nobody reads or writes, of length 0. Flags without a pointer but with a length must be refused with 4,
- * so the strengths, which every call takes, go with them. */
+ * so the strengths, which every call takes, go with them; with a table of slices their numbers go. */
 static inline struct deblock_picture deblock_picture_lent(struct deblock_picture p)
 {
     static uint8_t none[1];
+    static const struct deblock_slice no_slices[1] = {{0, 0, 0}};
+    static const uint16_t no_numbers[1] = {0};
     if (!p.t8s && p.t8s_len) { p.strengths = NULL; }
+    if (!p.slices && p.slices_len) { p.slice_numbers = NULL; }
     if (!p.luma) { p.luma = none; p.luma_len = 0; }
     if (!p.u) { p.u = none; p.u_len = 0; }
     if (!p.v) { p.v = none; p.v_len = 0; }
@@ -364,6 +439,8 @@ static inline struct deblock_picture deblock_picture_lent(struct deblock_picture
     if (!p.qps) { p.qps = none; p.qps_len = 0; }
     if (!p.t8s) { p.t8s = none; p.t8s_len = 0; }
     if (!p.marks) { p.marks = none; p.marks_len = 0; }
+    if (!p.slices) { p.slices = no_slices; p.slices_len = 0; }
+    if (!p.slice_numbers) { p.slice_numbers = no_numbers; p.slice_numbers_len = 0; }
     return p;
 }
 
@@ -423,6 +500,38 @@ static inline uint32_t deblock_picture_visit(const struct deblock_picture *pictu
                          p.luma, p.luma_len, p.u, p.u_len, p.v, p.v_len,
                          p.strengths, p.strengths_len, p.qps, p.qps_len, p.t8s, p.t8s_len,
                          p.marks, p.marks_len);
+}
+
+static inline uint32_t deblock_picture_whole_slices(const struct deblock_picture *picture)
+{
+    const struct deblock_picture p = deblock_picture_lent(*picture);
+    return deblock_whole_slices(p.w, p.h, p.part,
+                                p.offset_chroma, deblock_picture_chroma_v(&p),
+                                p.slices, p.slices_len, p.slice_numbers, p.slice_numbers_len,
+                                p.luma, p.luma_len, p.u, p.u_len, p.v, p.v_len,
+                                p.strengths, p.strengths_len, p.qps, p.qps_len, p.t8s, p.t8s_len);
+}
+
+static inline uint32_t deblock_picture_rows_slices(const struct deblock_picture *picture,
+                                                   size_t first, size_t last)
+{
+    const struct deblock_picture p = deblock_picture_lent(*picture);
+    return deblock_rows_slices(p.w, p.h, p.part, first, last,
+                               p.offset_chroma, deblock_picture_chroma_v(&p),
+                               p.slices, p.slices_len, p.slice_numbers, p.slice_numbers_len,
+                               p.luma, p.luma_len, p.u, p.u_len, p.v, p.v_len,
+                               p.strengths, p.strengths_len, p.qps, p.qps_len, p.t8s, p.t8s_len);
+}
+
+static inline uint32_t deblock_picture_visit_slices(const struct deblock_picture *picture, size_t x, size_t y)
+{
+    const struct deblock_picture p = deblock_picture_lent(*picture);
+    return deblock_visit_slices(p.w, p.h, p.part, x, y,
+                                p.offset_chroma, deblock_picture_chroma_v(&p),
+                                p.slices, p.slices_len, p.slice_numbers, p.slice_numbers_len,
+                                p.luma, p.luma_len, p.u, p.u_len, p.v, p.v_len,
+                                p.strengths, p.strengths_len, p.qps, p.qps_len, p.t8s, p.t8s_len,
+                                p.marks, p.marks_len);
 }
 
 /* These two look at w, h and marks alone. */

@@ -33,6 +33,33 @@ static void filtering(void)
     strengths[0] = 0;
 }
 
+/* The same with slices. */
+static void filtering_with_slices(void)
+{
+    static struct deblock_slice slice;
+    static uint16_t numbers[N];
+    struct deblock_picture p = lend_picture();
+    p.slices = &slice;
+    p.slices_len = 1;
+    p.slice_numbers = numbers;
+    p.slice_numbers_len = N;
+    decode();
+    expect("slices: not ready", DEBLOCK_NOT_READY, deblock_picture_visit_slices(&p, 1, 1));
+    expect("slices: ready", DEBLOCK_DONE, deblock_picture_visit_slices(&p, 0, 0));
+    expect("slices: once more", DEBLOCK_MARKED_ALREADY, deblock_picture_visit_slices(&p, 0, 0));
+    slice.mode = 3;
+    expect("mode 3", DEBLOCK_BAD_SLICE_MODE, deblock_picture_visit_slices(&p, 0, 0));
+    numbers[0] = 1;
+    expect("slice 1 of 1", DEBLOCK_BAD_SLICE_NUMBER, deblock_picture_visit_slices(&p, 0, 0));
+    strengths[0] = 5;
+    expect("slices: strength 5", DEBLOCK_BAD_STRENGTH, deblock_picture_visit_slices(&p, 0, 0));
+    slice.b = 13;
+    expect("B of a slice at 13", DEBLOCK_BAD_OFFSET, deblock_picture_visit_slices(&p, 0, 0));
+    p.slice_numbers_len--;
+    expect("numbers cut", DEBLOCK_MACROBLOCK_GRID_LENGTH, deblock_picture_visit_slices(&p, 0, 0));
+    strengths[0] = 0;
+}
+
 /* Offsets A, B, U's, and V's minus U's, which may have a sum that is no int32_t. */
 struct offsets {
     const char *what;
@@ -156,16 +183,15 @@ static void parts(void)
     filter_part(DEBLOCK_BOTTOM_FIELD, 100, 101);
 }
 
-/* Prints the texts, in the order of the numbers. All numbers that are none have the same. */
+/* Prints the texts, in the order of the numbers. All numbers that are none have the same, and no other. */
 static void texts(void)
 {
-    static const uint32_t none[] = {21, DEBLOCK_BAD_PICTURE_NUMBER + 1, 255, UINT32_MAX};
-    for (uint32_t answer = DEBLOCK_DONE; answer <= DEBLOCK_BAD_PARITY; answer++)
+    const uint32_t none = DEBLOCK_BAD_PICTURE_NUMBER + 1;
+    for (uint32_t answer = DEBLOCK_DONE; answer <= none; answer++)
         printf("%s\n", deblock_answer_text(answer));
-    printf("%s\n", deblock_answer_text(DEBLOCK_BAD_PICTURE_NUMBER));
-    printf("%s\n", deblock_answer_text(DEBLOCK_BAD_PARITY + 1));
-    for (size_t i = 0; i < sizeof none / sizeof *none; i++)
-        expect("a text", 0, strcmp(deblock_answer_text(none[i]), deblock_answer_text(20)) != 0);
+    expect("a text", 1, strcmp(deblock_answer_text(none - 1), deblock_answer_text(none)) != 0);
+    expect("a text", 0, strcmp(deblock_answer_text(255), deblock_answer_text(none)) != 0);
+    expect("a text", 0, strcmp(deblock_answer_text(UINT32_MAX), deblock_answer_text(none)) != 0);
 }
 
 static void version(void)
@@ -181,6 +207,7 @@ int main(void)
     const struct deblock_picture p = lend_picture();
     const struct deblock_grids g = lend_grids();
     filtering();
+    filtering_with_slices();
     all_offsets();
     deriving();
     kinds(&p, &g);

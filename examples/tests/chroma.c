@@ -1,6 +1,6 @@
-/* What the two chroma offsets come to in the planes: each reaches its own plane alone, by all three filtering
+/* What the two chroma offsets come to in the planes: each reaches its own plane alone, by all six filtering
  * functions. One macroblock of QP 30 with strength 1 everywhere, and in U and V the step 100 | 122 at the
- * inner edge.
+ * inner edge; it is one slice of mode 0, with a and b 0.
  *
  * By hand, from Tables 8-15 to 8-17: with offset 0 the QP is mapped to 29, where alpha is 22, and a step of
  * 22 stays. With offset 1 it is 31, mapped to 30, where alpha is 25, beta 8 and tc0 1: the step is filtered
@@ -10,24 +10,34 @@
 static const uint8_t left_alone[8] = {100, 100, 100, 100, 122, 122, 122, 122};
 static const uint8_t filtered[8] = {100, 100, 100, 102, 120, 122, 122, 122};
 
-enum { WAYS = 3 };
+enum { WAYS = 6 };
 
 static uint32_t filter(int way, const struct deblock_picture *p)
 {
-    if (way == 0)
-        return deblock_picture_whole(p);
-    return way == 1 ? deblock_picture_rows(p, 0, 1) : deblock_picture_visit(p, 0, 0);
+    switch (way) {
+    case 0: return deblock_picture_whole(p);
+    case 1: return deblock_picture_rows(p, 0, 1);
+    case 2: return deblock_picture_visit(p, 0, 0);
+    case 3: return deblock_picture_whole_slices(p);
+    case 4: return deblock_picture_rows_slices(p, 0, 1);
+    default: return deblock_picture_visit_slices(p, 0, 0);
+    }
 }
 
 /* One macroblock's share of the station's buffers. */
 static struct deblock_picture lend_macroblock(void)
 {
+    static const struct deblock_slice slice = {0, 0, 0};
+    static const uint16_t number = 0;
     struct deblock_picture p = lend_picture();
     p.w = p.h = 1;
     p.luma_len = 256;
     p.u_len = p.v_len = 64;
     p.strengths_len = 32;
     p.qps_len = p.marks_len = 1;
+    p.slices = &slice;
+    p.slice_numbers = &number;
+    p.slices_len = p.slice_numbers_len = 1;
     return p;
 }
 

@@ -34,13 +34,15 @@ static uint32_t keep(const size_t *arguments, size_t bytes, uint32_t answer)
         told.answer = keep(all, sizeof all, number); \
         return told; \
     }
-#define FILTERING \
-    int32_t a, int32_t b, int32_t cu, int32_t cv, \
+#define PLANES \
     uint8_t *y0, size_t yl, uint8_t *u0, size_t ul, uint8_t *v0, size_t vl, \
     const uint8_t *s, size_t sl, const uint8_t *q, size_t ql, const uint8_t *t, size_t tl
-#define FILTERING_KEPT \
-    (size_t)a, (size_t)b, (size_t)cu, (size_t)cv, at(y0), yl, at(u0), ul, at(v0), vl, \
-    at(s), sl, at(q), ql, at(t), tl
+#define PLANES_KEPT at(y0), yl, at(u0), ul, at(v0), vl, at(s), sl, at(q), ql, at(t), tl
+#define FILTERING int32_t a, int32_t b, int32_t cu, int32_t cv, PLANES
+#define FILTERING_KEPT (size_t)a, (size_t)b, (size_t)cu, (size_t)cv, PLANES_KEPT
+#define WITH_SLICES \
+    int32_t cu, int32_t cv, const struct deblock_slice *r, size_t rl, const uint16_t *n, size_t nl, PLANES
+#define WITH_SLICES_KEPT (size_t)cu, (size_t)cv, at(r), rl, at(n), nl, PLANES_KEPT
 #define DERIVING \
     const uint8_t *t, size_t tl, const uint8_t *i, size_t il, const uint8_t *n, size_t nl, \
     const int8_t *r0, size_t r0l, const int16_t *m0, size_t m0l, \
@@ -56,6 +58,13 @@ uint32_t deblock_rows(size_t w, size_t h, uint8_t part, size_t first, size_t las
 KEEP(102, w, h, part, first, last, FILTERING_KEPT)
 uint32_t deblock_visit(size_t w, size_t h, uint8_t part, size_t x, size_t y, FILTERING, uint8_t *m, size_t ml)
 KEEP(103, w, h, part, x, y, FILTERING_KEPT, at(m), ml)
+uint32_t deblock_whole_slices(size_t w, size_t h, uint8_t part, WITH_SLICES)
+KEEP(109, w, h, part, WITH_SLICES_KEPT)
+uint32_t deblock_rows_slices(size_t w, size_t h, uint8_t part, size_t first, size_t last, WITH_SLICES)
+KEEP(110, w, h, part, first, last, WITH_SLICES_KEPT)
+uint32_t deblock_visit_slices(size_t w, size_t h, uint8_t part, size_t x, size_t y, WITH_SLICES,
+                              uint8_t *m, size_t ml)
+KEEP(111, w, h, part, x, y, WITH_SLICES_KEPT, at(m), ml)
 struct deblock_finality deblock_is_final(size_t w, size_t h, size_t x, size_t y, const uint8_t *m, size_t ml)
 KEEP_TELLING(deblock_finality, 107, w, h, x, y, at(m), ml)
 struct deblock_finals deblock_made_final(size_t w, size_t h, size_t x, size_t y, const uint8_t *m, size_t ml)
@@ -87,7 +96,7 @@ static struct deblock_picture numbered_lengths(void)
     struct deblock_picture p = DEBLOCK_NONE;
     p.w = 1, p.h = 2, p.part = 6, p.offset_a = 4, p.offset_b = 5, p.offset_chroma = 7, p.offset_v_minus_u = 3;
     p.luma_len = 11, p.u_len = 12, p.v_len = 13, p.strengths_len = 14, p.qps_len = 15, p.t8s_len = 16;
-    p.marks_len = 17;
+    p.marks_len = 17, p.slices_len = 19, p.slice_numbers_len = 20;
     return p;
 }
 
@@ -101,6 +110,8 @@ static struct deblock_picture numbered(void)
     p.qps = (uint8_t *)(room + 35);
     p.t8s = (uint8_t *)(room + 36);
     p.marks = (uint8_t *)(room + 37);
+    p.slices = (struct deblock_slice *)(room + 39);
+    p.slice_numbers = (uint16_t *)(room + 40);
     return p;
 }
 
@@ -133,16 +144,27 @@ static struct deblock_grids numbered_grids(void)
     pictures0, pictures0_len, pictures1, pictures1_len, 34, 14
 #define DERIVED_FROM DERIVED_WITH(41, 21, 47, 27, 48, 28)
 
-static void all_lent(void)
+/* Those from luma to t8s, as filtering calls are handed them, and those of slices. */
+#define FILTERED 31, 11, 32, 12, 33, 13, 34, 14, 35, 15, 36, 16
+#define SLICES 39, 19, 40, 20
+
+static void all_filtering(void)
+{
+    const struct deblock_picture p = numbered();
+    EXPECT("whole", 101, deblock_picture_whole(&p), 1, 2, 6, 4, 5, 7, 10, FILTERED);
+    EXPECT("rows", 102, deblock_picture_rows(&p, 8, 9), 1, 2, 6, 8, 9, 4, 5, 7, 10, FILTERED);
+    EXPECT("visit", 103, deblock_picture_visit(&p, 8, 9), 1, 2, 6, 8, 9, 4, 5, 7, 10, FILTERED, 37, 17);
+    EXPECT("whole, slices", 109, deblock_picture_whole_slices(&p), 1, 2, 6, 7, 10, SLICES, FILTERED);
+    EXPECT("rows, slices", 110, deblock_picture_rows_slices(&p, 8, 9),
+           1, 2, 6, 8, 9, 7, 10, SLICES, FILTERED);
+    EXPECT("visit, slices", 111, deblock_picture_visit_slices(&p, 8, 9),
+           1, 2, 6, 8, 9, 7, 10, SLICES, FILTERED, 37, 17);
+}
+
+static void all_others(void)
 {
     const struct deblock_picture p = numbered();
     const struct deblock_grids g = numbered_grids();
-    EXPECT("whole", 101, deblock_picture_whole(&p),
-           1, 2, 6, 4, 5, 7, 10, 31, 11, 32, 12, 33, 13, 34, 14, 35, 15, 36, 16);
-    EXPECT("rows", 102, deblock_picture_rows(&p, 8, 9),
-           1, 2, 6, 8, 9, 4, 5, 7, 10, 31, 11, 32, 12, 33, 13, 34, 14, 35, 15, 36, 16);
-    EXPECT("visit", 103, deblock_picture_visit(&p, 8, 9),
-           1, 2, 6, 8, 9, 4, 5, 7, 10, 31, 11, 32, 12, 33, 13, 34, 14, 35, 15, 36, 16, 37, 17);
     EXPECT("is final", 107, deblock_picture_is_final(&p, 8, 9).answer, 1, 2, 8, 9, 37, 17);
     EXPECT("made final", 108, deblock_picture_made_final(&p, 8, 9).answer, 1, 2, 8, 9, 37, 17);
     EXPECT("strengths", 104, deblock_picture_strengths(&p, &g, 8, 9), 1, 2, 1, 8, 9, DERIVED_FROM);
@@ -163,6 +185,7 @@ static void parts(void)
     for (p.part = DEBLOCK_FRAME; p.part <= DEBLOCK_BOTTOM_FIELD; p.part++) {
         const size_t field = p.part != DEBLOCK_FRAME;
         EXPECT("a part", 101, deblock_picture_whole(&p), 1, 2, p.part, 4, 5, 7, 10);
+        EXPECT("a part, slices", 109, deblock_picture_whole_slices(&p), 1, 2, p.part, 7, 10);
         EXPECT("field", 104, deblock_picture_strengths(&p, &g, 8, 9), 1, 2, field, 8, 9);
         EXPECT("field by kind", 106, deblock_picture_strengths_kind(&p, &g, 8, 9, 18), 1, 2, field, 8, 9, 18);
         EXPECT("field by flags", 105, deblock_picture_strengths_flags(&p, &g, 8, 9, 0), 1, 2, field, 8, 9);
@@ -176,6 +199,7 @@ static void all_null(void)
     const struct deblock_picture p = numbered_lengths();
     const struct deblock_grids g = numbered_grid_lengths();
     EXPECT("null members", 103, deblock_picture_visit(&p, 8, 9), 1, 2, 6, 8, 9, 4, 5, 7, 10);
+    EXPECT("null members, slices", 111, deblock_picture_visit_slices(&p, 8, 9), 1, 2, 6, 8, 9, 7, 10);
     EXPECT("null marks", 107, deblock_picture_is_final(&p, 8, 9).answer, 1, 2, 8, 9);
     EXPECT("null marks", 108, deblock_picture_made_final(&p, 8, 9).answer, 1, 2, 8, 9);
     EXPECT("null grids", 104, deblock_picture_strengths(&p, &g, 8, 9), 1, 2, 1, 8, 9);
@@ -199,6 +223,21 @@ static void null_with_a_length(void)
     g.mv1 = NULL;
     EXPECT("mv1", 104, deblock_picture_strengths(&p, &g, 8, 9),
            1, 2, 1, 8, 9, 36, 16, 0, 0, 42, 22, 43, 23, 44, 24, 45, 25, 0, 0, 47, 27, 48, 28, 34, 14);
+}
+
+/* A table of slices that is left out goes on as empty, and with a length their numbers go with it. Calls that
+ * take neither are handed what they were. */
+static void null_slices(void)
+{
+    struct deblock_picture p = numbered();
+    p.slices = NULL;
+    EXPECT("slices", 109, deblock_picture_whole_slices(&p), 1, 2, 6, 7, 10, 0, 0, 0, 0, FILTERED);
+    EXPECT("no matter", 101, deblock_picture_whole(&p), 1, 2, 6, 4, 5, 7, 10, FILTERED);
+    p.slices_len = 0;
+    EXPECT("no slices", 109, deblock_picture_whole_slices(&p), 1, 2, 6, 7, 10, 0, 0, 40, 20, FILTERED);
+    p = numbered();
+    p.slice_numbers = NULL;
+    EXPECT("numbers", 109, deblock_picture_whole_slices(&p), 1, 2, 6, 7, 10, 39, 19, 0, 0, FILTERED);
 }
 
 /* A table that is left out goes on as empty, and with a length the inter bytes go with it. */
@@ -242,16 +281,19 @@ static void all_sums(void)
         EXPECT("sum, whole", 101, deblock_picture_whole(&p), 0, 0, 0, 0, 0, chroma_u, chroma_v);
         EXPECT("sum, rows", 102, deblock_picture_rows(&p, 8, 9), 0, 0, 0, 8, 9, 0, 0, chroma_u, chroma_v);
         EXPECT("sum, visit", 103, deblock_picture_visit(&p, 8, 9), 0, 0, 0, 8, 9, 0, 0, chroma_u, chroma_v);
+        EXPECT("sum, slices", 109, deblock_picture_whole_slices(&p), 0, 0, 0, chroma_u, chroma_v);
     }
 }
 
 int main(void)
 {
-    all_lent();
+    all_filtering();
+    all_others();
     all_sums();
     parts();
     all_null();
     null_with_a_length();
+    null_slices();
     null_tables();
     return faults != 0;
 }

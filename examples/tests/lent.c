@@ -1,6 +1,21 @@
 /* Answers where something is not lent, or is null with a length. */
 #include "test.h"
 
+/* The three with slices, of a picture that is one slice of mode 0. */
+static void expect_with_slices(const char *what, uint32_t want, struct deblock_picture p)
+{
+    static const struct deblock_slice slice = {0, 0, 0};
+    static const uint16_t numbers[N] = {0};
+    p.slices = &slice;
+    p.slices_len = 1;
+    p.slice_numbers = numbers;
+    p.slice_numbers_len = N;
+    decode();
+    expect(what, want, deblock_picture_whole_slices(&p));
+    expect(what, want, deblock_picture_rows_slices(&p, 0, p.h));
+    expect(what, want, deblock_picture_visit_slices(&p, 0, 0));
+}
+
 /* The filtering functions answer one number, the strength functions another. */
 static void expect_all(const char *what, uint32_t filtering, uint32_t deriving,
                        const struct deblock_picture *p, const struct deblock_grids *g)
@@ -9,6 +24,7 @@ static void expect_all(const char *what, uint32_t filtering, uint32_t deriving,
     expect(what, filtering, deblock_picture_whole(p));
     expect(what, filtering, deblock_picture_rows(p, 0, p->h));
     expect(what, filtering, deblock_picture_visit(p, 0, 0));
+    expect_with_slices(what, filtering, *p);
     expect(what, deriving, deblock_picture_strengths(p, g, 0, 0));
     expect(what, deriving, deblock_picture_strengths_flags(p, g, 0, 0, 0));
     expect(what, deriving, deblock_picture_strengths_kind(p, g, 0, 0, DEBLOCK_INTER));

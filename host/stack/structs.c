@@ -6,6 +6,8 @@ typedef void (*function)(void);
 const function kept[] = {
     (function)deblock_picture_whole,     (function)deblock_picture_rows,
     (function)deblock_picture_visit,     (function)deblock_picture_strengths,
+    (function)deblock_picture_whole_slices, (function)deblock_picture_rows_slices,
+    (function)deblock_picture_visit_slices,
     (function)deblock_picture_is_final,  (function)deblock_picture_made_final,
     (function)deblock_picture_strengths_flags, (function)deblock_picture_strengths_kind,
 };

@@ -7,6 +7,7 @@ use Rattle.edges.specs.declared.Offsets.{Offsets}
 use Rattle.sizes.specs.declared.Part.{Part}
 use Rattle.sizes.specs.declared.Part.the-variants.{Frame, Field}
 use Rattle.sizes.specs.declared.Size.{Size}
+use Rattle.slices.specs.declared.ChromaOffsets.{ChromaOffsets}
 use Rattle.motion.specs.Grids.{Grids}
 use Rattle.strengths.specs.Calls.{untrueKind}
 use Rattle.strengths.specs.declared.kinds.Flagged.{Flagged}
@@ -26,6 +27,10 @@ partNumber k = cond (eqb k 0) Frame (Field (k - 1))
 -- the four offsets
 abbrev pub offsets : ℤ → ℤ → ℤ → ℤ → Offsets
 offsets a b u v = record { a = a; b = b; «chroma_u» = u; «chroma_v» = v }
+
+-- .. and where slices are lent two
+abbrev pub chromaNumbers : ℤ → ℤ → ChromaOffsets
+chromaNumbers u v = record { u = u; v = v }
 
 -- a flag is set by any number but 0
 abbrev pub isSet : ℕ → Bool

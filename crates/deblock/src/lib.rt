@@ -3,5 +3,6 @@
 pub mod derivation;
 pub mod filtering;
 pub mod showing;
+pub mod slicing;
 pub mod streams;
 pub mod visiting;

@@ -4,7 +4,7 @@ use std::{error, fmt};
 
 /// What a call answers, by the numbers of docs/RULES.md, "Answers". All but `Done` are refusals, and a
 /// refusal has changed nothing that was lent. They stand in the order in which calls look for them, which is
-/// not that of their numbers: 19 comes between 2 and 3, 22 between 10 and 11. The calls of
+/// not that of their numbers: 19 comes between 2 and 3, 20 and 21 after 9, 22 between 10 and 11. The calls of
 /// [`y4m`](crate::y4m) have orders of their own, which stand with them. An answer must be looked at:
 ///
 /// ```compile_fail
@@ -24,12 +24,13 @@ pub enum Answer {
     BadParity = 19,
     /// `luma`, `u` or `v` has the wrong length.
     PlaneLength = 3,
-    /// `strengths`, `qps`, `t8s` or `marks` has the wrong length.
+    /// `strengths`, `qps`, `t8s`, `marks` or `slice_numbers` has the wrong length.
     MacroblockGridLength = 4,
     /// One of the 4x4 grids has the wrong length, or just one of `ref1` and `mv1` is empty, or just one of
     /// the tables `pictures0` and `pictures1`; the latter alone may be, where list 1 is not lent.
     BlockGridLength = 5,
-    /// `a`, `b`, `chroma_u` or `chroma_v` is not -12 to 12.
+    /// `a`, `b`, `chroma_u` or `chroma_v` is not -12 to 12; of a table of slices `a` or `b` of a record, read
+    /// or not.
     BadOffset = 6,
     /// A byte of `inter`, `t8s` or `marks` that is read is above 1.
     NotABool = 7,
@@ -37,6 +38,10 @@ pub enum Answer {
     BadQp = 8,
     /// A strength that is read is above 4.
     BadStrength = 9,
+    /// A slice number that is read is outside the table.
+    BadSliceNumber = 20,
+    /// A record of the table of slices, read or not, has a mode above 2.
+    BadSliceMode = 21,
     /// A reference that is read is below -1.
     BadReference = 10,
     /// An entry of `pictures0` or `pictures1`, read or not, is not 0 to 65,535.
@@ -60,12 +65,12 @@ pub enum Answer {
 }
 
 /// Each answer with its sentence, in the order of the numbers.
-const WORDS: [(Answer, &str); 21] = [
+const WORDS: [(Answer, &str); 23] = [
     (Answer::Done, "done"),
     (Answer::BadSize, "width, height or their product is out of range"),
     (Answer::Outside, "the macroblock is outside the picture, or the rows are not first <= last <= h"),
     (Answer::PlaneLength, "luma, U or V has the wrong length"),
-    (Answer::MacroblockGridLength, "strengths, QPs, 8x8 flags or marks have the wrong length"),
+    (Answer::MacroblockGridLength, "strengths, QPs, 8x8 flags, marks or slice numbers have the wrong length"),
     (Answer::BlockGridLength, "a 4x4 grid has the wrong length, or just one list 1 grid or reference table is empty"),
     (Answer::BadOffset, "an offset is not within -12 to 12"),
     (Answer::NotABool, "an inter byte, 8x8 flag or mark is not 0 or 1"),
@@ -81,6 +86,8 @@ const WORDS: [(Answer, &str); 21] = [
     (Answer::BadSides, "a side of the stream's picture is no multiple of 16, or its size is out of range"),
     (Answer::StreamLength, "the stream is cut short, or is not just as long as what is to be written"),
     (Answer::BadParity, "the part is not a frame, a top field or a bottom field"),
+    (Answer::BadSliceNumber, "a slice number is outside the table of slices"),
+    (Answer::BadSliceMode, "the mode of a slice is not 0, 1 or 2"),
     (Answer::BadPictureNumber, "an entry of a reference table is outside 0 to 65535"),
 ];
 
@@ -94,7 +101,7 @@ impl Answer {
         }
     }
 
-    /// The number that the archive answered: 0 to 19, or 22.
+    /// The number that the archive answered: 0 to 22.
     pub fn number(self) -> u32 {
         self as u32
     }
@@ -128,8 +135,7 @@ mod tests {
 
     #[test]
     fn numbers_and_words_are_in_step() {
-        let numbers: Vec<u32> = (0..=19).chain([22]).collect();
-        assert_eq!(WORDS.map(|(answer, _)| answer.number()), numbers[..]);
+        assert!(WORDS.iter().map(|(answer, _)| answer.number()).eq(0..=22));
         for (answer, words) in WORDS {
             assert_eq!((Answer::of(answer.number()), answer.to_string().as_str()), (answer, words));
         }
@@ -137,7 +143,7 @@ mod tests {
 
     #[test]
     fn an_unknown_number_is_not_passed_on() {
-        for number in [20, 21, 23, u32::MAX] {
+        for number in [23, 24, u32::MAX] {
             let panic = std::panic::catch_unwind(|| Answer::of(number)).expect_err("it is none");
             let words = panic.downcast_ref::<String>().expect("words");
             assert!(words.starts_with(&format!("the archive answered {number},")), "{words}");

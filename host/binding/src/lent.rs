@@ -51,14 +51,29 @@ pub struct Place {
 /// The four offsets of a picture, each -12 to 12.
 #[derive(Clone, Copy, PartialEq, Eq, Debug, Default)]
 pub struct Offsets {
-    /// FilterOffsetA: twice `slice_alpha_c0_offset_div2`.
+    /// FilterOffsetA: twice `slice_alpha_c0_offset_div2`. Calls with slices do not take it.
     pub a: i32,
-    /// FilterOffsetB: twice `slice_beta_offset_div2`.
+    /// FilterOffsetB: twice `slice_beta_offset_div2`. Calls with slices do not take it.
     pub b: i32,
     /// U's chroma offset: `chroma_qp_index_offset`.
     pub chroma_u: i32,
     /// V's chroma offset: `second_chroma_qp_index_offset`; in a stream that does not send it, U's.
     pub chroma_v: i32,
+}
+
+/// The settings of a slice, laid out as `struct deblock_slice` of include/deblock.h: three bytes. Any values
+/// may be lent; a call with slices refuses a table that holds others than these.
+#[repr(C)]
+#[derive(Clone, Copy, PartialEq, Eq, Debug, Default)]
+pub struct SliceRecord {
+    /// `disable_deblocking_filter_idc`. 0: all edges of the slice's macroblocks are filtered. 1: none is. 2:
+    /// all but left edges where the left macroblock has another slice number, and top edges where the upper
+    /// one has.
+    pub mode: u8,
+    /// FilterOffsetA of the slice, -12 to 12.
+    pub a: i8,
+    /// FilterOffsetB of the slice, -12 to 12.
+    pub b: i8,
 }
 
 /// What the caller knows of a macroblock. A kind that is not true of the grids is refused.

@@ -1,10 +1,10 @@
 //! The deblocking filter of the survey station: a safe binding over the archive of the proved code.
 //!
-//! A [`Picture`] holds what stays the same throughout a picture and borrows its memory. Its eight methods are
-//! the calls of the archive that derive strengths and filter, each of which answers an [`Answer`], and those
-//! that tell which macroblocks are final, where the answer is the error. What goes into the buffers stands in
-//! docs/RULES.md, "Sizes and layouts". The module [`y4m`] has the other four calls, which read and write
-//! pictures kept as YUV4MPEG2 streams.
+//! A [`Picture`] holds what stays the same throughout a picture and borrows its memory. Its eleven methods
+//! are the calls of the archive that derive strengths and filter, each of which answers an [`Answer`], and
+//! those that tell which macroblocks are final, where the answer is the error. What goes into the buffers
+//! stands in docs/RULES.md, "Sizes and layouts". The module [`y4m`] has the other four calls, which read and
+//! write pictures kept as YUV4MPEG2 streams.
 //!
 //! # From grids to planes
 //!
@@ -138,6 +138,43 @@
 //! # Ok::<(), Answer>(())
 //! ```
 //!
+//! # Slices with settings of their own
+//!
+//! Where slices switch the filter off, or have offsets A and B of their own, a picture is lent a table with a
+//! record of each slice and for each macroblock the number of its slice, and is filtered by `whole_slices`,
+//! `rows_slices` and `visit_slices`. `offsets.a` and `offsets.b` do not count there. An edge is filtered as
+//! the macroblock to its right or below it says. An empty table does not mean one slice: every number is
+//! outside it.
+//!
+//! ```
+//! use deblock::{Answer, Picture, Size, SliceRecord};
+//!
+//! let [on, off, within] = [0, 1, 2].map(|mode| SliceRecord { mode, a: 0, b: 0 });
+//! let size = Size { w: 3, h: 1 };
+//! let level = |x: usize| 90 + 6 * (x / 8 % 2) as u8; // a step every eight samples
+//! let filtered = |slices: &[SliceRecord]| -> Result<Vec<usize>, Answer> {
+//!     let mut luma: Vec<u8> = (0..768).map(|i| level(i % 48)).collect();
+//!     let mut picture = Picture {
+//!         size,
+//!         luma: &mut luma,
+//!         u: &mut [90; 192],
+//!         v: &mut [90; 192],
+//!         strengths: &mut [3; 96],
+//!         qps: &[40; 3],
+//!         slices,
+//!         slice_numbers: &[0, 1, 2],
+//!         ..Picture::default()
+//!     };
+//!     picture.whole_slices().ok()?;
+//!     Ok((4..48).step_by(4).filter(|&x| luma[x] != level(x)).collect())
+//! };
+//! assert_eq!(filtered(&[on, on, on])?, [8, 16, 24, 32, 40]);
+//! assert_eq!(filtered(&[on, off, on])?, [8, 32, 40]); // the edge at 32 is the third macroblock's
+//! assert_eq!(filtered(&[on, within, within])?, [8, 24, 40]);
+//! assert_eq!(filtered(&[on, within]), Err(Answer::BadSliceNumber));
+//! # Ok::<(), Answer>(())
+//! ```
+//!
 //! # What holds of every call
 //!
 //! - A refused call has changed nothing that it was lent. Whatever the buffers hold and however long they
@@ -168,5 +205,5 @@ pub mod wire;
 
 pub use answer::Answer;
 pub use finals::Finals;
-pub use lent::{Flags, Grids, Kind, Offsets, Part, Place, Size};
+pub use lent::{Flags, Grids, Kind, Offsets, Part, Place, Size, SliceRecord};
 pub use picture::Picture;

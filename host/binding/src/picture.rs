@@ -1,6 +1,6 @@
-//! A picture and the eight calls on it.
+//! A picture and the eleven calls on it.
 
-use crate::{wire, Answer, Finals, Flags, Grids, Kind, Offsets, Part, Place, Size};
+use crate::{wire, Answer, Finals, Flags, Grids, Kind, Offsets, Part, Place, Size, SliceRecord};
 use std::ops::Range;
 
 /// What stays the same throughout a picture, and the memory that its calls are lent.
@@ -11,8 +11,10 @@ use std::ops::Range;
 /// allowed.
 ///
 /// Between the visits of a picture its size, part and offsets stay, and the calls alone write marks. What
-/// belongs to a macroblock, its samples, QP, flag and strengths, may be written until its own visit and not
-/// after it. Before that let QPs, flags and strengths be 0: a visit also looks at QPs to the left and above.
+/// belongs to a macroblock, its samples, QP, flag, strengths and slice number, may be written until its own
+/// visit and not after it; so may the record of a slice until the first visit of a macroblock of it. Before
+/// that let QPs, flags and strengths be 0, slice numbers inside the table and its records legal ones: a visit
+/// also looks at QPs and slice numbers to the left and above, and at every record.
 /// To write them the caller drops the `Picture`, which is only borrows, and makes another over the same
 /// buffers.
 ///
@@ -41,6 +43,11 @@ pub struct Picture<'a> {
     pub t8s: &'a [u8],
     /// n marks, 1 where a macroblock was visited, all 0 at the start. Visits write them.
     pub marks: &'a mut [u8],
+    /// A record for each slice, for the calls with slices alone. They look at every record, used or not.
+    pub slices: &'a [SliceRecord],
+    /// n slice numbers: of each macroblock, where in `slices` its slice's record stands. Two slices have two
+    /// numbers, also where their records are equal.
+    pub slice_numbers: &'a [u16],
 }
 
 impl Picture<'_> {
@@ -60,6 +67,22 @@ impl Picture<'_> {
     /// until then it answers [`Answer::NotReady`].
     pub fn visit(&mut self, at: Place) -> Answer {
         Answer::of(wire::visit(self, self.part as u8, at))
+    }
+
+    /// Filters the whole picture as [`Picture::whole`] does, each macroblock as the record of its slice says.
+    pub fn whole_slices(&mut self) -> Answer {
+        Answer::of(wire::whole_slices(self, self.part as u8))
+    }
+
+    /// Filters rows as [`Picture::rows`] does, each macroblock as the record of its slice says.
+    pub fn rows_slices(&mut self, rows: Range<usize>) -> Answer {
+        Answer::of(wire::rows_slices(self, self.part as u8, rows.start, rows.end))
+    }
+
+    /// Filters one macroblock as the record of its slice says, and sets its mark. It waits for the neighbours
+    /// that [`Picture::visit`] waits for, whatever the record's mode.
+    pub fn visit_slices(&mut self, at: Place) -> Answer {
+        Answer::of(wire::visit_slices(self, self.part as u8, at))
     }
 
     /// Whether a macroblock is final, which means that it and its right and lower neighbours, as far as they
@@ -124,6 +147,8 @@ impl Picture<'_> {
     }
 }
 
+#[cfg(test)]
+mod slice_tests;
 #[cfg(test)]
 mod strength_tests;
 

@@ -1,6 +1,6 @@
-//! The twelve calls as the archive has them: numbers in, numbers out (docs/RULES.md, "Answers"). For a caller
-//! who must pass on a part, a kind or a flag as the byte that it is; [`Picture`] and [`y4m`](crate::y4m) have
-//! the same calls with types.
+//! The fifteen calls as the archive has them: numbers in, numbers out (docs/RULES.md, "Answers"). For a
+//! caller who must pass on a part, a kind or a flag as the byte that it is; [`Picture`] and
+//! [`y4m`](crate::y4m) have the same calls with types.
 //!
 //! `part` is 0 for a frame, 1 for the top field and 2 for the bottom field; any other byte is refused.
 //! `field` is 0 for a frame, and any other byte means a field. The member `part` of a `Picture` is not read
@@ -10,7 +10,7 @@
 //! it: a slice is valid for its length, aligned, and not null even where it is empty; what is borrowed
 //! mutably is borrowed by nobody else, and does not overlap.
 
-use crate::{Grids, Picture, Place, Size};
+use crate::{Grids, Picture, Place, Size, SliceRecord};
 
 /// What a call finds in a YUV4MPEG2 stream, laid out as `struct deblock_y4m` of include/deblock.h.
 #[repr(C)]
@@ -94,6 +94,30 @@ mod c {
         pub fn deblock_visit(
             w: usize, h: usize, part: u8, x: usize, y: usize,
             a: i32, b: i32, chroma_u: i32, chroma_v: i32,
+            luma: *mut u8, luma_len: usize, u: *mut u8, u_len: usize, v: *mut u8, v_len: usize,
+            strengths: *const u8, strengths_len: usize, qps: *const u8, qps_len: usize,
+            t8s: *const u8, t8s_len: usize, marks: *mut u8, marks_len: usize,
+        ) -> u32;
+        pub fn deblock_whole_slices(
+            w: usize, h: usize, part: u8,
+            chroma_u: i32, chroma_v: i32,
+            slices: *const super::SliceRecord, slices_len: usize, numbers: *const u16, numbers_len: usize,
+            luma: *mut u8, luma_len: usize, u: *mut u8, u_len: usize, v: *mut u8, v_len: usize,
+            strengths: *const u8, strengths_len: usize, qps: *const u8, qps_len: usize,
+            t8s: *const u8, t8s_len: usize,
+        ) -> u32;
+        pub fn deblock_rows_slices(
+            w: usize, h: usize, part: u8, first: usize, last: usize,
+            chroma_u: i32, chroma_v: i32,
+            slices: *const super::SliceRecord, slices_len: usize, numbers: *const u16, numbers_len: usize,
+            luma: *mut u8, luma_len: usize, u: *mut u8, u_len: usize, v: *mut u8, v_len: usize,
+            strengths: *const u8, strengths_len: usize, qps: *const u8, qps_len: usize,
+            t8s: *const u8, t8s_len: usize,
+        ) -> u32;
+        pub fn deblock_visit_slices(
+            w: usize, h: usize, part: u8, x: usize, y: usize,
+            chroma_u: i32, chroma_v: i32,
+            slices: *const super::SliceRecord, slices_len: usize, numbers: *const u16, numbers_len: usize,
             luma: *mut u8, luma_len: usize, u: *mut u8, u_len: usize, v: *mut u8, v_len: usize,
             strengths: *const u8, strengths_len: usize, qps: *const u8, qps_len: usize,
             t8s: *const u8, t8s_len: usize, marks: *mut u8, marks_len: usize,
@@ -206,6 +230,49 @@ pub fn visit(p: &mut Picture, part: u8, at: Place) -> u32 {
     }
 }
 
+/// Filters the whole picture with slices.
+pub fn whole_slices(p: &mut Picture, part: u8) -> u32 {
+    // SAFETY: as above; a record has C's layout.
+    unsafe {
+        c::deblock_whole_slices(
+            p.size.w, p.size.h, part,
+            p.offsets.chroma_u, p.offsets.chroma_v,
+            p.slices.as_ptr(), p.slices.len(), p.slice_numbers.as_ptr(), p.slice_numbers.len(),
+            p.luma.as_mut_ptr(), p.luma.len(), p.u.as_mut_ptr(), p.u.len(), p.v.as_mut_ptr(), p.v.len(),
+            p.strengths.as_ptr(), p.strengths.len(), p.qps.as_ptr(), p.qps.len(), p.t8s.as_ptr(), p.t8s.len(),
+        )
+    }
+}
+
+/// Filters the macroblock rows from `first` on and before `last` with slices.
+pub fn rows_slices(p: &mut Picture, part: u8, first: usize, last: usize) -> u32 {
+    // SAFETY: as above; a record has C's layout.
+    unsafe {
+        c::deblock_rows_slices(
+            p.size.w, p.size.h, part, first, last,
+            p.offsets.chroma_u, p.offsets.chroma_v,
+            p.slices.as_ptr(), p.slices.len(), p.slice_numbers.as_ptr(), p.slice_numbers.len(),
+            p.luma.as_mut_ptr(), p.luma.len(), p.u.as_mut_ptr(), p.u.len(), p.v.as_mut_ptr(), p.v.len(),
+            p.strengths.as_ptr(), p.strengths.len(), p.qps.as_ptr(), p.qps.len(), p.t8s.as_ptr(), p.t8s.len(),
+        )
+    }
+}
+
+/// Filters a macroblock by its slice, if it is ready, and marks it.
+pub fn visit_slices(p: &mut Picture, part: u8, at: Place) -> u32 {
+    // SAFETY: as above; a record has C's layout.
+    unsafe {
+        c::deblock_visit_slices(
+            p.size.w, p.size.h, part, at.x, at.y,
+            p.offsets.chroma_u, p.offsets.chroma_v,
+            p.slices.as_ptr(), p.slices.len(), p.slice_numbers.as_ptr(), p.slice_numbers.len(),
+            p.luma.as_mut_ptr(), p.luma.len(), p.u.as_mut_ptr(), p.u.len(), p.v.as_mut_ptr(), p.v.len(),
+            p.strengths.as_ptr(), p.strengths.len(), p.qps.as_ptr(), p.qps.len(), p.t8s.as_ptr(), p.t8s.len(),
+            p.marks.as_mut_ptr(), p.marks.len(),
+        )
+    }
+}
+
 /// Whether a macroblock is final.
 pub fn is_final(size: Size, at: Place, marks: &[u8]) -> Finality {
     // SAFETY: the pointer and the length are a slice's, and nothing is written.
@@ -261,6 +328,9 @@ mod tests {
     #[test]
     fn structs_are_laid_out_as_in_the_header() {
         assert_eq!([size_of::<Y4m>(), size_of::<Finality>(), size_of::<Finals>()], [12, 8, 8]);
+        assert_eq!([size_of::<SliceRecord>(), size_of::<[SliceRecord; 2]>(), align_of::<SliceRecord>()], [3, 6, 1]);
+        let members = [offset_of!(SliceRecord, mode), offset_of!(SliceRecord, a), offset_of!(SliceRecord, b)];
+        assert_eq!(members, [0, 1, 2]);
         assert_eq!([offset_of!(Finality, answer), offset_of!(Finality, yes)], [0, 4]);
         assert_eq!([offset_of!(Finals, own), offset_of!(Finals, left), offset_of!(Finals, upper)], [4, 5, 6]);
     }
@@ -274,6 +344,9 @@ mod tests {
             let answer = if part > 2 { 19 } else { 3 };
             assert_eq!([whole(p, part), rows(p, part, 0, 0), visit(p, part, inside)], [answer; 3]);
             assert_eq!([rows(p, part, 0, 2), visit(p, part, outside)], [2; 2]);
+            let by_slices = [whole_slices(p, part), rows_slices(p, part, 0, 0), visit_slices(p, part, inside)];
+            assert_eq!(by_slices, [answer; 3]);
+            assert_eq!([rows_slices(p, part, 0, 2), visit_slices(p, part, outside)], [2; 2]);
         }
     }
 }

@@ -6,8 +6,9 @@
 //! picture, and its median over all pictures: a machine whose pace drifts during the run moves both times of
 //! a picture and hardly their ratio. The filtered planes are compared as well. A frame as two fields, which
 //! the original cannot filter, is timed beside the original's whole frame, without a bound. So are visits
-//! with the question after each what it has made final, beside visits alone, and the archive's whole picture
-//! with two chroma offsets, beside its own with one for both planes.
+//! with the question after each what it has made final, beside visits alone, the archive's whole picture with
+//! two chroma offsets, beside its own with one for both planes, and its calls with slices, beside its plain
+//! ones: slices of mode 0 with offsets 0, so that what is filtered is the same.
 
 mod picture;
 mod ways;
@@ -84,6 +85,18 @@ impl Subject {
             over(Way::Wavefront, Way::Whole),
             over(Way::Fields, Way::Original),
             over(Way::Asked, Way::Raster),
+        );
+        let whole_by = [Way::WholeByOne, Way::WholeByRows];
+        let [one, rows] = whole_by.map(|way| over(way, Way::Original));
+        let [one_plain, rows_plain] = whole_by.map(|way| over(way, Way::Whole));
+        let visits = [Way::RasterByOne, Way::RasterByRows, Way::RasterByMany].map(|way| over(way, Way::Raster));
+        println!(
+            "      by 1 and by 36 slices, whole picture: {one:.3} and {rows:.3} of the Rust's, \
+             {one_plain:.3} and {rows_plain:.3} of the plain call's"
+        );
+        println!(
+            "      by tables of 1, 36 and 300 records, raster: {:.3}, {:.3} and {:.3} of the plain visits'",
+            visits[0], visits[1], visits[2]
         );
         whole <= self.bound && raster.max(wavefront) <= VISITS_BOUND
     }

@@ -19,7 +19,7 @@ pictures, each of two times on one picture. Exit status 0: every ratio to the or
 a content that is above is timed again, up to three times, since other machines may disturb this one.
 That of two fields, to the original's whole frame of the same samples, has none, nor has that of visits in
 raster order with the question after each what it has made final, to these visits alone, nor that of two
-chroma offsets, to the archive's own whole picture with one.
+chroma offsets, to the archive's own whole picture with one, nor those of calls with slices of mode 0.
 
 clock strengths [PICTURES]: the three strength calls likewise, on every macroblock of such pictures, PICTURES
 of each content (20 or more; 100 without). They have no bound: the exit status is 0.";

@@ -27,13 +27,13 @@ impl<K: Ord> Counts<K> {
 
     /// A line for each kind; `words` says what it is about, its run and its call.
     pub fn print(&self, words: impl Fn(&K) -> [String; 3]) {
-        println!("{:<10}{:<12}{:<10}{:>10}{:>10}   refused, by number", "of", "run", "call", "calls", "done");
+        println!("{:<10}{:<12}{:<12}{:>10}{:>10}   refused, by number", "of", "run", "call", "calls", "done");
         for (kind, numbers) in &self.0 {
             let (calls, done) = (numbers.values().sum::<u64>(), numbers.get(&0).copied().unwrap_or(0));
             let refused: Vec<String> =
                 numbers.iter().filter(|(n, _)| **n > 0).map(|(n, count)| format!("{n}: {count}")).collect();
             let [of, run, call] = words(kind);
-            println!("{of:<10}{run:<12}{call:<10}{calls:>10}{done:>10}   {}", refused.join(", "));
+            println!("{of:<10}{run:<12}{call:<12}{calls:>10}{done:>10}   {}", refused.join(", "));
         }
     }
 }

@@ -54,9 +54,9 @@ impl Fenced {
             Some(Side::End) if size <= ROOM => ROOM - size,
             _ => return Loan { own, copy: None },
         };
-        // SAFETY: the copy lies in the room, aligned since the room and all sizes are multiples of the
-        // element's size; it is borrowed from `self` as long as the loan lives; integers have no invalid
-        // bytes.
+        // SAFETY: the copy lies in the room, aligned since the room's ends and all sizes are multiples of the
+        // element's alignment; it is borrowed from `self` as long as the loan lives; integers, and structs of
+        // integers alone, have no invalid bytes.
         let copy = unsafe { std::slice::from_raw_parts_mut(self.room.add(from).cast::<T>(), own.len()) };
         copy.copy_from_slice(own);
         Loan { own, copy: Some(copy) }

@@ -1,5 +1,5 @@
 //! Compares the proved archive with the Rust original, in fields, under 8x8 flags, with two chroma offsets,
-//! in what is final and in streams with models, every answer and every lent byte.
+//! with slices, in what is final and in streams with models, every answer and every lent byte.
 
 mod arrivals;
 mod counts;
@@ -11,12 +11,16 @@ mod fault;
 mod fence;
 mod finality;
 mod make;
+mod make_slices;
 mod make_tables;
 mod mistakes;
 mod model;
 mod model_counts;
 mod model_lines;
 mod model_numbers;
+mod model_slice_edges;
+mod model_slice_numbers;
+mod model_slices;
 mod model_strengths;
 mod model_table_numbers;
 mod model_tables;
@@ -31,6 +35,7 @@ mod shrink;
 mod small;
 mod small_fields;
 mod small_flags;
+mod small_slices;
 mod small_tables;
 mod streams;
 mod subject;
@@ -46,11 +51,11 @@ use std::time::{Duration, Instant};
 use subject::Archive;
 
 const HELP: &str = "judge: compares the proved archive with the Rust original, every answer and every lent byte,
-and in what the original does not have, fields, coefficients of 8x8 blocks and a chroma offset of V's own, with
-a model of the rules that agrees with the original; streams and what is final, which it does not have either,
-with a reading of the rules that was written on its own
+and in what the original does not have, fields, coefficients of 8x8 blocks, a chroma offset of V's own and
+slices, with a model of the rules that agrees with the original; streams and what is final, which it does not
+have either, with a reading of the rules that was written on its own
 
-  judge bounded [SEED]       all small cases, then 80 rounds of random ones: about a minute
+  judge bounded [SEED]       all small cases, then 80 rounds of random ones: a minute and a half
   judge long SECONDS [SEED]  all small cases, then rounds until the time is over
   judge streams [SEED]       what of `bounded` is about streams
   judge round SEED           one round again, to replay a mismatch
@@ -163,8 +168,9 @@ impl<'a> Compared<'a> {
         let [frames, fields] = [Structure::Frame, Structure::Field].map(|of| self.pictures.calls(of));
         let (finality, streams) = (self.pictures.finality.calls(), self.streams.calls());
         let all = frames + fields + finality + streams;
-        let pictures = format!("{frames} about frames, {fields} about fields, {finality} about what is final");
-        format!("{all} calls ({pictures}, {streams} about streams)")
+        let sliced = self.pictures.sliced_calls();
+        let pictures = format!("{frames} about frames, {fields} about fields, {sliced} of them with slices");
+        format!("{all} calls ({pictures}, {finality} about what is final, {streams} about streams)")
     }
 
     fn print(&self) {

@@ -1,7 +1,8 @@
 //! The rules of docs/RULES.md as a plain program, which can be told to make one mistake.
 //!
 //! Without a mistake it is what a field is held to, a strength call that reads an 8x8 flag which is set, and
-//! a filtering call with two chroma offsets; elsewhere it is a second opinion beside the Rust original:
+//! a filtering call with two chroma offsets or by several slices; elsewhere it is a second opinion beside the
+//! Rust original:
 //! `judge bounded` and `judge mutants` ask that the two agree. It finds the lines of a field where they lie
 //! in the frame; what the original is asked of a field (original.rs) has them taken out.
 
@@ -42,17 +43,28 @@ impl Subject for Model {
 
 /// One edge of macroblock (x, y), in luma or in U (false) or V (true).
 #[derive(Clone, Copy)]
-struct Edge {
-    x: usize,
-    y: usize,
-    chroma: Option<bool>,
-    horizontal: bool,
-    number: usize,
+pub struct Edge {
+    pub x: usize,
+    pub y: usize,
+    pub chroma: Option<bool>,
+    pub horizontal: bool,
+    pub number: usize,
 }
 
 impl Edge {
     fn is_border(self) -> bool {
         self.number == 0 && if self.horizontal { self.y == 0 } else { self.x == 0 }
+    }
+
+    /// Its macroblock, by number, in which q0 lies.
+    pub fn own(self, r: &Request) -> usize {
+        self.y * r.w + self.x
+    }
+
+    /// The other macroblock that an outer edge lies at, in which p0 lies.
+    pub fn beside(self, r: &Request) -> Option<usize> {
+        let back = if self.horizontal { r.w } else { 1 };
+        (self.number == 0 && !self.is_border()).then(|| self.own(r) - back)
     }
 }
 
@@ -86,7 +98,12 @@ impl Model {
         if first || !self.has(Mistake::FiltersFirstVisitOnly) {
             self.macroblock(r, r.x, r.y);
         }
-        if !self.has(Mistake::MarkForgotten) {
+        let is_forgotten = match self.mistake {
+            Some(Mistake::MarkForgotten) => true,
+            Some(Mistake::ModeOneUnmarked) => r.sliced && r.record(at).mode == 1,
+            _ => false,
+        };
+        if !is_forgotten {
             r.marks[at] = 1;
         }
     }
@@ -122,8 +139,8 @@ impl Model {
         if self.is_left_out(r, e) {
             return;
         }
-        let at = e.y * r.w + e.x;
-        let thresholds = self.thresholds(r, r.qps[self.neighbour(r, e)].into(), r.qps[at].into(), e.chroma);
+        let at = e.own(r);
+        let thresholds = self.thresholds(r, e, r.qps[self.neighbour(r, e)].into(), r.qps[at].into());
         let from = 32 * at + 4 * e.number + if e.horizontal { 16 } else { 0 };
         let four: [u8; 4] = std::array::from_fn(|i| r.strengths[from + i]);
         let (first, apart) = self.lines(r, e.chroma.is_some());
@@ -171,27 +188,26 @@ impl Model {
         }
     }
 
-    /// The picture's border; edges that the 8x8 flag skips; and of chroma, whose edges lie at luma edges 0
-    /// and 2, the two others.
+    /// The picture's border; edges that the 8x8 flag skips; of chroma, whose edges lie at luma edges 0 and 2,
+    /// the two others; and edges that the slice leaves.
     fn is_left_out(&self, r: &Request, e: Edge) -> bool {
         // filtering at the left border takes the end of the line above for p
         let filters_border = self.has(Mistake::BorderFiltered) && !e.horizontal && e.y > 0;
-        let t8 = !r.t8s.is_empty() && r.t8s[e.y * r.w + e.x] == 1 && !self.has(Mistake::FlagIgnored);
+        let t8 = !r.t8s.is_empty() && r.t8s[e.own(r)] == 1 && !self.has(Mistake::FlagIgnored);
         let odd = e.number % 2 == 1;
         let skipped = match e.chroma {
             None => t8 && odd,
             Some(_) => odd || t8 && e.number == 2 && self.has(Mistake::FlagSkipsChroma),
         };
-        e.is_border() && !filters_border || skipped
+        e.is_border() && !filters_border || skipped || self.is_left_out_by_slice(r, e)
     }
 
     /// The macroblock on p's side.
     fn neighbour(&self, r: &Request, e: Edge) -> usize {
-        let at = e.y * r.w + e.x;
-        match (e.number == 0 && !e.is_border(), e.horizontal) {
-            (false, _) => at,
-            (true, true) if !self.has(Mistake::LeftQpAbove) || e.x == 0 => at - r.w,
-            (true, _) => at - 1,
+        match e.beside(r) {
+            None => e.own(r),
+            Some(_) if self.has(Mistake::LeftQpAbove) && e.x > 0 => e.own(r) - 1,
+            Some(beside) => beside,
         }
     }
 }

@@ -30,6 +30,7 @@ impl Model {
             _ => self.wrong_strengths(r, number),
         };
         let wrong = wrong.or_else(|| self.wrong_part(r, number)).or_else(|| self.wrong_offset(r, number));
+        let wrong = wrong.or_else(|| self.wrong_slices(r, number));
         wrong.or_else(|| self.wrong_anywhere(r, number)).unwrap_or(number)
     }
 

@@ -1,7 +1,7 @@
 //! The model's thresholds: clause 8.7.2.2, and the tables of the standard.
 
 use crate::mistakes::Mistake;
-use crate::model::Model;
+use crate::model::{Edge, Model};
 use crate::request::{Call, Request};
 
 pub struct Thresholds {
@@ -11,10 +11,11 @@ pub struct Thresholds {
 }
 
 impl Model {
-    /// Of an edge between macroblocks of QPs `p` and `q`, in luma or in U (false) or V (true).
-    pub fn thresholds(&self, r: &Request, p: i32, q: i32, chroma: Option<bool>) -> Thresholds {
-        let [a, b, chroma_u, _] = r.offsets;
-        let own = chroma.map(|is_v| self.chroma_offset(r, is_v));
+    /// Of an edge between macroblocks of QPs `p` and `q`.
+    pub fn thresholds(&self, r: &Request, e: Edge, p: i32, q: i32) -> Thresholds {
+        let [a, b] = self.filter_offsets(r, e);
+        let [.., chroma_u, _] = r.offsets;
+        let own = e.chroma.map(|is_v| self.chroma_offset(r, is_v));
         let beside = if self.has(Mistake::BesideByOffsetOfU) { own.map(|_| chroma_u) } else { own };
         // a mistake may let any offset through to here
         let map = |qp: i32, offset: Option<i32>| match offset {

@@ -16,15 +16,31 @@
 //!
 //! It has one chroma offset. Where U's and V's differ it is asked twice, once with each: luma must be the
 //! same of both, U is taken from the first answer and V from the second.
+//!
+//! It has no slices. Where all macroblocks that a call filters are of one slice of mode 0 it is asked with
+//! that slice's A and B. Elsewhere it is asked once for each chunk of a row whose macroblocks have the same A
+//! and B, in raster order, with strength 0 in all other macroblocks and on every edge that a mode leaves.
 
 use crate::request::{Buffer, Call, Request, Structure};
 use crate::table;
+use deblock::SliceRecord;
 use oracle::{Blocks, Grids, Offsets, Planes, Stored};
 
 /// Whether the original has just what is asked for: a frame, for a strength call no 8x8 flag that is set, for
-/// a filtering call one chroma offset.
+/// a filtering call one chroma offset and one slice of mode 0.
 pub fn decides(r: &Request) -> bool {
-    r.structure() == Structure::Frame && !(r.call.is_strengths() && reads_flag(r)) && !is_asked_twice(r)
+    let is_beyond = match r.call.is_strengths() {
+        true => reads_flag(r),
+        false => is_asked_twice(r) || is_asked_by_chunks(r),
+    };
+    r.structure() == Structure::Frame && !is_beyond
+}
+
+/// Whether a call with slices filters macroblocks of other slices than one of mode 0.
+pub fn is_asked_by_chunks(r: &Request) -> bool {
+    let mut filtered = table::macroblocks_read(r);
+    let first = filtered.start;
+    r.sliced && filtered.any(|m| r.numbers[m] != r.numbers[first] || r.record(m).mode != 0)
 }
 
 /// Whether a filtering call has two chroma offsets.
@@ -80,14 +96,64 @@ fn strengths(r: &mut Request) {
 }
 
 fn planes(r: &mut Request) {
-    let [a, b, chroma_u, chroma_v] = r.offsets;
+    let [.., chroma_u, chroma_v] = r.offsets;
     let second = is_asked_twice(r).then(|| r.clone());
-    planes_by(r, Offsets { a, b, chroma: chroma_u });
+    planes_by_chroma(r, chroma_u);
     if let Some(mut second) = second {
-        planes_by(&mut second, Offsets { a, b, chroma: chroma_v });
+        planes_by_chroma(&mut second, chroma_v);
         assert!(second.luma == r.luma, "luma is the same with every chroma offset");
         r.v = second.v;
     }
+}
+
+fn planes_by_chroma(r: &mut Request, chroma: i32) {
+    if is_asked_by_chunks(r) {
+        return by_chunks(r, chroma);
+    }
+    let [a, b, ..] = r.offsets;
+    let own = table::macroblocks_read(r).next().filter(|_| r.sliced).map(|m| slice_offsets(r, m, chroma));
+    planes_by(r, own.unwrap_or(Offsets { a, b, chroma }));
+}
+
+fn slice_offsets(r: &Request, m: usize, chroma: i32) -> Offsets {
+    let SliceRecord { a, b, .. } = r.record(m);
+    Offsets { a: a.into(), b: b.into(), chroma }
+}
+
+/// One call for each chunk of a row whose macroblocks have the same A and B.
+fn by_chunks(r: &mut Request, chroma: i32) {
+    let (w, at) = (r.w, r.at());
+    let filtered: Vec<(usize, Offsets)> =
+        table::macroblocks_read(r).map(|m| (m, slice_offsets(r, m, chroma))).collect();
+    let mut stored = Stored::blank(w, r.h, &r.qps, &r.t8s);
+    for chunk in filtered.chunk_by(|(_, own), (next, others)| next % w > 0 && own == others) {
+        chunk.iter().for_each(|&(m, _)| stored.set(m, &left_by_mode(r, m)));
+        let (row, offsets) = (chunk[0].0 / w, chunk[0].1);
+        stored.filter_rows(Planes { luma: &mut r.luma, u: &mut r.u, v: &mut r.v }, row..row + 1, offsets);
+        chunk.iter().for_each(|&(m, _)| stored.set(m, &[0; 32]));
+    }
+    if r.call == Call::Visit {
+        r.marks[at] = 1;
+    }
+}
+
+/// The strengths of a macroblock, 0 on the edges that its slice's mode leaves.
+fn left_by_mode(r: &Request, m: usize) -> [u8; 32] {
+    let mut own: [u8; 32] = std::array::from_fn(|i| r.strengths[32 * m + i]);
+    let is_other = |other: usize| r.numbers[other] != r.numbers[m];
+    match r.record(m).mode {
+        0 => {}
+        1 => own = [0; 32],
+        _ => {
+            if !m.is_multiple_of(r.w) && is_other(m - 1) {
+                own[..4].fill(0);
+            }
+            if m >= r.w && is_other(m - r.w) {
+                own[16..20].fill(0);
+            }
+        }
+    }
+    own
 }
 
 fn planes_by(r: &mut Request, offsets: Offsets) {
@@ -167,6 +233,72 @@ mod tests {
             assert!(apart.luma == low.luma && apart.luma == high.luma);
             assert!(apart.u == low.u && apart.u != high.u && apart.v == high.v && apart.v != low.v);
         }
+    }
+
+    /// 2 by 2 macroblocks of two slices, the second in the lower right corner alone; a visit is that of the
+    /// corner.
+    fn by_slices(call: Call, [first, second]: [(u8, i8, i8); 2]) -> Request {
+        let mut q = blocky(0, call, 2, 2, 5);
+        (q.x, q.y, q.sliced) = (1, 1, true);
+        q.strengths.fill(3);
+        q.slices = [first, second].map(|(mode, a, b)| SliceRecord { mode, a, b }).to_vec().into();
+        q.numbers = vec![0, 0, 0, 1].into();
+        q.marks.iter_mut().skip(3).for_each(|mark| *mark = 0);
+        q
+    }
+
+    /// What the plain call makes of the same with these offsets, and strength 0 on these edges of the corner.
+    fn plainly(q: &Request, [a, b]: [i32; 2], edges: &[usize]) -> Request {
+        let mut plain = Request { sliced: false, offsets: [a, b, 0, 0], ..q.clone() };
+        edges.iter().for_each(|edge| plain.strengths[96 + 4 * edge..][..4].fill(0));
+        assert!(decides(&plain) && work(&mut plain));
+        plain
+    }
+
+    #[test]
+    fn one_slice_of_mode_0_is_decided() {
+        for call in FILTER_CALLS {
+            let one = Request { numbers: vec![1; 4].into(), ..by_slices(call, [(1, 9, 9), (0, 3, -2)]) };
+            assert!(decides(&one) && !decides(&Request { part: 1, ..one.clone() }));
+            let mut after = one.clone();
+            assert!(work(&mut after));
+            assert!(after.luma == plainly(&one, [3, -2], &[]).luma && after.luma != one.luma);
+            for mode in [1, 2] {
+                let one = Request { numbers: vec![1; 4].into(), ..by_slices(call, [(0, 0, 0), (mode, 0, 0)]) };
+                assert!(!decides(&one));
+            }
+            let two = by_slices(call, [(0, 0, 0), (0, 0, 0)]);
+            assert_eq!(decides(&two), call == Call::Visit, "a visit filters one slice alone");
+        }
+    }
+
+    #[test]
+    fn modes_are_asked_about_by_strengths() {
+        for (call, mode, edges) in
+            FILTER_CALLS.into_iter().flat_map(|call| [(call, 1, &[0, 1, 2, 3, 4, 5, 6, 7][..]), (call, 2, &[0, 4])])
+        {
+            let q = by_slices(call, [(0, 0, 0), (mode, 0, 0)]);
+            let mut after = q.clone();
+            assert!(work(&mut after));
+            let plain = plainly(&q, [0, 0], edges);
+            assert!(after.luma == plain.luma && after.u == plain.u && after.v == plain.v);
+            assert!(after.marks == plain.marks);
+            assert!(after.luma != plainly(&q, [0, 0], &[]).luma);
+        }
+    }
+
+    /// The corner is asked about with its own offsets, its outer edges too: what is above it and to its left
+    /// is as with the others'.
+    #[test]
+    fn offsets_are_asked_about_by_chunks() {
+        let q = by_slices(Call::Whole, [(0, 0, 0), (0, -12, -12)]);
+        let mut after = q.clone();
+        assert!(work(&mut after));
+        let corner = Request { offsets: [-12, -12, 0, 0], ..plainly(&q, [0, 0], &[0, 1, 2, 3, 4, 5, 6, 7]) };
+        let mut corner =
+            Request { call: Call::Visit, marks: vec![1, 1, 1, 0].into(), strengths: q.strengths, ..corner };
+        assert!(work(&mut corner));
+        assert!(after.luma == corner.luma && after.u == corner.u && after.v == corner.v);
     }
 
     /// Of (1, 0) in 2 by 1 of one motion, with these 8x8 flags and counts that tell blocks from their 8x8

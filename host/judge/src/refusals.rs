@@ -1,9 +1,11 @@
 //! Damaged requests: every check alone and in pairs, in the order of the table of refusals.
 
 use crate::make;
-use crate::request::{Buffer, Call, Lent, Request, Structure, CALLS};
+use crate::make_slices;
+use crate::request::{Buffer, Call, Lent, Request, Structure, CALLS, FILTER_CALLS};
 use crate::session::{Failure, Outcome, Session};
 use crate::table;
+use deblock::SliceRecord;
 use inputs::Rng;
 
 /// A way to spoil a request, at random places: read or not, the table says which.
@@ -77,11 +79,34 @@ const FIELD_DAMAGES: [(u32, Damage); 3] = [
     (3, |_, q| [&mut q.luma, &mut q.u, &mut q.v].into_iter().for_each(|plane| plane.resize(plane.len() / 2, 0))),
 ];
 
-fn damages(of: Structure) -> Vec<(u32, Damage)> {
-    match of {
-        Structure::Frame => DAMAGES.to_vec(),
-        Structure::Field => [&DAMAGES[..], &FIELD_DAMAGES].concat(),
-    }
+/// What can be wrong with slices.
+const SLICE_DAMAGES: [(u32, Damage); 7] = [
+    (4, |r, q| spoil_length(r, &mut q.numbers)),
+    (6, |r, q| {
+        let (a, b) = r.pick(&[(13, 0), (-13, 0), (0, 13), (0, -13), (127, 0), (0, -128), (-128, 127)]);
+        spoil_record(r, q, |record| SliceRecord { a, b, ..record })
+    }),
+    (20, |r, q| {
+        let length = q.slices.len().min(65_535) as u16;
+        let value = r.pick(&[length, length, length.saturating_add(1), 65_535]);
+        spoil_near(r, q, |q| &mut q.numbers, value)
+    }),
+    (20, |r, q| {
+        let length = q.slices.len();
+        q.slices.resize(r.pick(&[length.saturating_sub(1), length / 2, 0]), SliceRecord::default())
+    }),
+    (20, |r, q| q.numbers.fill(r.pick(&[256, 300, 65_535]))),
+    (21, |r, q| {
+        let mode = r.pick(&[3, 4, 128, 255]);
+        spoil_record(r, q, |record| SliceRecord { mode, ..record })
+    }),
+    (21, |_, q| q.slices.resize(q.slices.len() + 1, SliceRecord { mode: 3, a: 0, b: 0 })),
+];
+
+fn damages(of: Structure, sliced: bool) -> Vec<(u32, Damage)> {
+    let fields = if of == Structure::Field { &FIELD_DAMAGES[..] } else { &[] };
+    let slices = if sliced { &SLICE_DAMAGES[..] } else { &[] };
+    [&DAMAGES[..], fields, slices].concat()
 }
 
 /// Sides that are too large, whose products and sums overflow.
@@ -92,19 +117,30 @@ const FAR_OFFSETS: [i32; 6] = [-13, 13, i32::MIN, i32::MAX, 255, -256];
 
 /// One good request of each call, spoiled once and twice in every combination.
 pub fn every_pair(s: &mut Session, r: &mut Rng, of: Structure, area: usize) -> Outcome {
-    let damages = damages(of);
     for call in CALLS {
         let good = good(r, of, call, area);
-        s.check("refusals", &good)?;
-        for (i, (_, first)) in damages.iter().enumerate() {
-            let mut once = good.clone();
-            first(r, &mut once);
-            s.check("refusals", &once)?;
-            for (_, second) in &damages[i..] {
-                let mut twice = once.clone();
-                second(r, &mut twice);
-                s.check("refusals", &twice)?;
-            }
+        every_pair_of(s, r, &good, &damages(of, false))?;
+    }
+    Ok(())
+}
+
+/// The same of one of the calls with slices, what can be wrong with those among the rest.
+pub fn every_pair_with_slices(s: &mut Session, r: &mut Rng, of: Structure, area: usize) -> Outcome {
+    let call = r.pick(&FILTER_CALLS);
+    let good = sliced(r, of, call, area);
+    every_pair_of(s, r, &good, &damages(of, true))
+}
+
+fn every_pair_of(s: &mut Session, r: &mut Rng, good: &Request, damages: &[(u32, Damage)]) -> Outcome {
+    s.check("refusals", good)?;
+    for (i, (_, first)) in damages.iter().enumerate() {
+        let mut once = good.clone();
+        first(r, &mut once);
+        s.check("refusals", &once)?;
+        for (_, second) in &damages[i..] {
+            let mut twice = once.clone();
+            second(r, &mut twice);
+            s.check("refusals", &twice)?;
         }
     }
     Ok(())
@@ -112,11 +148,24 @@ pub fn every_pair(s: &mut Session, r: &mut Rng, of: Structure, area: usize) -> O
 
 /// A small random request, spoiled up to three times: quick, so that there are many.
 pub fn spoiled(s: &mut Session, r: &mut Rng, of: Structure) -> Outcome {
-    let damages = damages(of);
     let call = r.pick(&CALLS);
-    let mut q = good(r, of, call, 6);
+    let q = good(r, of, call, 6);
+    spoil(s, r, q, &damages(of, false))
+}
+
+/// The same of a call with slices, of which half of the damages are to slices.
+pub fn spoiled_with_slices(s: &mut Session, r: &mut Rng, of: Structure) -> Outcome {
+    let call = r.pick(&FILTER_CALLS);
+    let q = sliced(r, of, call, 6);
+    if r.once_in(2) {
+        return spoil(s, r, q, &SLICE_DAMAGES);
+    }
+    spoil(s, r, q, &damages(of, true))
+}
+
+fn spoil(s: &mut Session, r: &mut Rng, mut q: Request, damages: &[(u32, Damage)]) -> Outcome {
     for _ in 0..r.below(4) {
-        r.pick(&damages).1(r, &mut q);
+        r.pick(damages).1(r, &mut q);
     }
     s.check("refusals", &q)
 }
@@ -141,9 +190,18 @@ fn good(r: &mut Rng, of: Structure, call: Call, area: usize) -> Request {
     if call.is_strengths() {
         return make::grids(r, of, call, w, h);
     }
-    let mut q = make::picture(r, of, call, w, h);
-    if call == Call::Visit {
-        // ready: everything before it in raster order is marked, and what follows may be
+    ready(make::picture(r, of, call, w, h))
+}
+
+/// A good call with slices.
+fn sliced(r: &mut Rng, of: Structure, call: Call, area: usize) -> Request {
+    let (w, h) = make::size(r, area);
+    ready(make_slices::picture(r, of, call, w, h))
+}
+
+/// A visit becomes ready: everything before it in raster order is marked, and what follows may be.
+fn ready(mut q: Request) -> Request {
+    if q.call == Call::Visit {
         let at = q.at();
         q.marks[..at].fill(1);
         q.marks[at] = 0;
@@ -182,6 +240,18 @@ fn spoil_number(r: &mut Rng, q: &mut Request) {
     own[place] = r.pick(&[-1, 65_536, i32::MIN, i32::MAX, -65_536, 65_543]);
 }
 
+/// Changes one record: the macroblock's own, the first, the last or any.
+fn spoil_record(r: &mut Rng, q: &mut Request, change: impl Fn(SliceRecord) -> SliceRecord) {
+    if q.slices.is_empty() {
+        return;
+    }
+    let at = q.y.saturating_mul(q.w.clamp(1, 256)).saturating_add(q.x);
+    let (last, anywhere) = (q.slices.len() - 1, r.below(q.slices.len()));
+    let own = q.numbers.get(at).map_or(0, |&number| number.into());
+    let place = r.pick(&[own, 0, last, anywhere]).min(last);
+    q.slices[place] = change(q.slices[place]);
+}
+
 /// Changes one entry of a buffer: of this macroblock, of one beside it, or anywhere.
 fn spoil_near<T: Lent>(r: &mut Rng, q: &mut Request, member: fn(&mut Request) -> &mut Buffer<T>, value: T) {
     let (w, n) = (q.w.clamp(1, 256), q.w.saturating_mul(q.h).max(1));
@@ -207,14 +277,32 @@ mod tests {
     #[test]
     fn every_damage_calls_its_number_forth() {
         let mut r = Rng::new(2);
-        for (i, (number, damage)) in damages(Structure::Field).iter().enumerate() {
+        for (i, (number, damage)) in damages(Structure::Field, false).iter().enumerate() {
             let mut hits = |call: Call| {
-                let mut q = good(&mut r, Structure::Field, call, 6);
-                let before = answer(&q);
-                damage(&mut r, &mut q);
-                before == 0 && answer(&q) == *number
+                let q = good(&mut r, Structure::Field, call, 6);
+                calls_forth(&mut r, q, *damage, *number)
             };
             assert!((0..200).any(|_| CALLS.into_iter().any(&mut hits)), "damage {i} never gives {number}");
+        }
+    }
+
+    fn calls_forth(r: &mut Rng, mut q: Request, damage: Damage, number: u32) -> bool {
+        let before = answer(&q);
+        damage(r, &mut q);
+        before == 0 && answer(&q) == number
+    }
+
+    /// In each of the three calls.
+    #[test]
+    fn every_damage_to_slices_calls_its_number_forth() {
+        let mut r = Rng::new(4);
+        for (i, call) in (0..SLICE_DAMAGES.len()).flat_map(|i| FILTER_CALLS.map(|call| (i, call))) {
+            let (number, damage) = SLICE_DAMAGES[i];
+            let mut hits = || {
+                let q = sliced(&mut r, Structure::Field, call, 6);
+                calls_forth(&mut r, q, damage, number)
+            };
+            assert!((0..200).any(|_| hits()), "damage {i} to {call:?} never gives {number}");
         }
     }
 

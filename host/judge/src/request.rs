@@ -1,8 +1,10 @@
 //! One call with everything that is lent to it.
 
+use deblock::SliceRecord;
 use std::ops::{Deref, DerefMut};
 
-/// The six calls of the archive that derive strengths and filter.
+/// The calls of the archive that derive strengths and filter; each that filters is there twice, plain and
+/// with slices.
 #[derive(Clone, Copy, PartialEq, Eq, PartialOrd, Ord, Debug)]
 pub enum Call {
     Kind,
@@ -22,6 +24,11 @@ impl Call {
     /// strengths.
     pub fn is_strengths(self) -> bool {
         matches!(self, Call::Kind | Call::Flags | Call::Flagless)
+    }
+
+    /// In words; a filtering call with slices is another call.
+    pub fn name(self, sliced: bool) -> String {
+        format!("{self:?}{}", if sliced { "Slices" } else { "" })
     }
 }
 
@@ -82,8 +89,13 @@ pub struct Request {
     pub kind: u8,
     pub flat: u8,
     pub uniform: u8,
-    /// A, B, U's chroma offset, V's.
+    /// A, B, U's chroma offset, V's. A call with slices is not lent A and B.
     pub offsets: [i32; 4],
+    /// Whether a filtering call is the one with slices: it alone is lent `slices` and `numbers`.
+    pub sliced: bool,
+    /// The records of slices, and for each macroblock the number of its own.
+    pub slices: Buffer<SliceRecord>,
+    pub numbers: Buffer<u16>,
     pub inter: Buffer<u8>,
     pub nnz: Buffer<u8>,
     pub ref0: Buffer<i8>,
@@ -116,6 +128,9 @@ impl Request {
             flat: 0,
             uniform: 0,
             offsets: [0; 4],
+            sliced: false,
+            slices: Buffer::default(),
+            numbers: Buffer::default(),
             inter: Buffer::default(),
             nnz: Buffer::default(),
             ref0: Buffer::default(),
@@ -144,6 +159,10 @@ impl Request {
         block / (4 * self.w) / 4 * self.w + block % (4 * self.w) / 4
     }
 
+    pub fn name(&self) -> String {
+        self.call.name(self.sliced)
+    }
+
     pub fn structure(&self) -> Structure {
         Structure::of(self.part)
     }
@@ -151,6 +170,11 @@ impl Request {
     pub fn lists(&self) -> [List<'_>; 2] {
         let Request { ref0, mv0, pictures0, ref1, mv1, pictures1, .. } = self;
         [(ref0, mv0, pictures0), (ref1, mv1, pictures1)].map(|(refs, mvs, pictures)| List { refs, mvs, pictures })
+    }
+
+    /// The record of a macroblock's slice.
+    pub fn record(&self, macroblock: usize) -> SliceRecord {
+        self.slices[usize::from(self.numbers[macroblock])]
     }
 
     /// Whether a strength call is lent a table for a list at least.
@@ -173,6 +197,8 @@ impl Request {
             .or_else(|| differs("mv1", &self.mv1, &other.mv1))
             .or_else(|| differs("pictures0", &self.pictures0, &other.pictures0))
             .or_else(|| differs("pictures1", &self.pictures1, &other.pictures1))
+            .or_else(|| differs("slices", &self.slices, &other.slices))
+            .or_else(|| differs("numbers", &self.numbers, &other.numbers))
             .or_else(|| differs("strengths", &self.strengths, &other.strengths))
             .or_else(|| differs("luma", &self.luma, &other.luma))
             .or_else(|| differs("u", &self.u, &other.u))
@@ -192,6 +218,8 @@ impl Request {
         self.mv1.undo(&before.mv1, &after.mv1);
         self.pictures0.undo(&before.pictures0, &after.pictures0);
         self.pictures1.undo(&before.pictures1, &after.pictures1);
+        self.slices.undo(&before.slices, &after.slices);
+        self.numbers.undo(&before.numbers, &after.numbers);
         self.strengths.undo(&before.strengths, &after.strengths);
         self.luma.undo(&before.luma, &after.luma);
         self.u.undo(&before.u, &after.u);
@@ -237,7 +265,14 @@ macro_rules! lent {
         })*
     };
 }
-lent! { u8 0xA5 i8 -0x5B i16 -0x5A5B i32 -0x5A5A_5A5B }
+lent! { u8 0xA5 i8 -0x5B u16 0xA5A5 i16 -0x5A5B i32 -0x5A5A_5A5B }
+
+impl Lent for SliceRecord {
+    const GUARD: SliceRecord = SliceRecord { mode: u8::GUARD, a: i8::GUARD, b: i8::GUARD };
+    fn of(bits: u64) -> SliceRecord {
+        SliceRecord { mode: u8::of(bits), a: i8::of(bits >> 8), b: i8::of(bits >> 16) }
+    }
+}
 
 /// Lent memory between guards. Comparing two buffers compares their guards too, so a byte written beside a
 /// buffer shows.

@@ -1,6 +1,7 @@
 //! One round: about a second of random work, all of it fixed by one seed.
 
 use crate::make;
+use crate::make_slices;
 use crate::refusals;
 use crate::request::{Call, Structure, FILTER_CALLS, STRENGTH_CALLS};
 use crate::session::{Outcome, Session};
@@ -39,6 +40,52 @@ pub fn round(s: &mut Session, seed: u64, depth: Depth) -> Outcome {
     }
     if depth == Depth::Full && seed.is_multiple_of(16) {
         large(s, &mut r, Structure::Field, seed / 16)?;
+    }
+    slices(s, seed, depth, times)
+}
+
+/// The calls with slices: frames, then half as much of fields. Every eighth round has large frames, every
+/// sixteenth large fields.
+fn slices(s: &mut Session, seed: u64, depth: Depth, times: impl Fn(usize) -> usize) -> Outcome {
+    let mut r = Rng::new(seed ^ u64::from_be_bytes(*b"  slices"));
+    for (of, share) in [(Structure::Frame, 1), (Structure::Field, 2)] {
+        s.about(of);
+        ordinary_slices(s, &mut r, of, |n| times(n) / share)?;
+        if depth == Depth::Full && seed.is_multiple_of(8 * share as u64) {
+            large_slices(s, &mut r, of, seed / (8 * share as u64))?;
+        }
+    }
+    Ok(())
+}
+
+fn ordinary_slices(s: &mut Session, r: &mut Rng, of: Structure, times: impl Fn(usize) -> usize) -> Outcome {
+    for call in FILTER_CALLS {
+        for _ in 0..times(200) {
+            let (w, h) = make::size(r, 16);
+            s.check("random", &make_slices::picture(r, of, call, w, h))?;
+        }
+    }
+    for _ in 0..times(16) {
+        let (w, h) = make::size(r, 20);
+        visits::sequence_with_slices(s, r, of, w, h)?;
+    }
+    refusals::every_pair_with_slices(s, r, of, 9)?;
+    for _ in 0..times(1600) {
+        refusals::spoiled_with_slices(s, r, of)?;
+    }
+    for _ in 0..times(24) {
+        unread::check_with_slices(s, r, of)?;
+    }
+    Ok(())
+}
+
+/// Visits of a picture of a size in between, and each call at a limit: another limit with each number.
+fn large_slices(s: &mut Session, r: &mut Rng, of: Structure, number: u64) -> Outcome {
+    let (w, h) = make::size(r, 600);
+    visits::sequence_with_slices(s, r, of, w, h)?;
+    let (w, h) = LIMITS[number as usize % LIMITS.len()];
+    for call in FILTER_CALLS {
+        s.check("limits", &make_slices::picture(r, of, call, w, h))?;
     }
     Ok(())
 }

@@ -28,8 +28,8 @@ pub struct Session<'a> {
     thorough: bool,
     /// What the runs are about that are now made.
     of: Structure,
-    /// For what each run is about, each run and each call.
-    counts: Counts<(Structure, &'static str, Call)>,
+    /// For what each run is about, each run and each call, plain or with slices.
+    counts: Counts<(Structure, &'static str, Call, bool)>,
     /// For each other kind of comparison (a whole picture after visits), how many were made.
     others: BTreeMap<&'static str, u64>,
     /// Calls that were done as the original decides.
@@ -64,17 +64,17 @@ impl<'a> Session<'a> {
         }
         match compared(self.subject, r, number, &want) {
             Ok(()) => {
-                self.count(run, r.call, number);
+                self.count(run, r, number);
                 Ok(())
             }
-            Err(what) if !self.thorough => Err(Failure(format!("{}, {run}, {:?}: {what}", self.of.words(), r.call))),
+            Err(what) if !self.thorough => Err(Failure(format!("{}, {run}, {}: {what}", self.of.words(), r.name()))),
             Err(what) => {
                 let small = shrink::smallest(r, |r| mismatch(self.subject, r).is_err());
                 let after = mismatch(self.subject, &small).err().unwrap_or_default();
                 Err(Failure(format!(
-                    "{}, {run}, call {:?} on {} by {}: {what}\nthe smallest such case: {after}\n{}",
+                    "{}, {run}, call {} on {} by {}: {what}\nthe smallest such case: {after}\n{}",
                     self.of.words(),
-                    r.call,
+                    r.name(),
                     r.w,
                     r.h,
                     shrink::describe(&small)
@@ -94,6 +94,9 @@ impl<'a> Session<'a> {
         if r.has_tables() {
             self.note(held_to_with_tables(decides, other.is_some()));
         }
+        if r.sliced {
+            self.note(held_to_with_slices(decides, other.is_some()));
+        }
         match other.and_then(|other| other.difference(want)) {
             None => Ok(()),
             Some(what) => {
@@ -111,7 +114,7 @@ impl<'a> Session<'a> {
             let what = format!("visit of ({x}, {y}) in {w} by {h}, part {part}, answered {answer} instead of {number}");
             return Err(Failure(format!("{run}: {what}")));
         }
-        self.count(run, r.call, number);
+        self.count(run, r, number);
         Ok(())
     }
 
@@ -131,7 +134,7 @@ impl<'a> Session<'a> {
                 return Ok(());
             }
         };
-        Err(Failure(format!("{run}, {:?}: bytes that are not read tell: {what}\n{}", r.call, shrink::describe(r))))
+        Err(Failure(format!("{run}, {}: bytes that are not read tell: {what}\n{}", r.name(), shrink::describe(r))))
     }
 
     pub fn note(&mut self, what: &'static str) {
@@ -143,20 +146,25 @@ impl<'a> Session<'a> {
         self.counts.calls(|(own, ..)| *own == of)
     }
 
+    /// How many of all these were calls with slices.
+    pub fn sliced_calls(&self) -> u64 {
+        self.counts.calls(|(.., sliced)| *sliced)
+    }
+
     /// How often a number was answered, over everything.
     pub fn answered(&self, number: u32) -> u64 {
         self.counts.answered(number)
     }
 
     pub fn print(&self) {
-        self.counts.print(|(of, run, call)| [of.words().to_string(), run.to_string(), format!("{call:?}")]);
+        self.counts.print(|(of, run, call, sliced)| [of.words().to_string(), run.to_string(), call.name(*sliced)]);
         for (what, count) in &self.others {
             println!("{what}: {count}");
         }
     }
 
-    fn count(&mut self, run: &'static str, call: Call, number: u32) {
-        self.counts.count((self.of, run, call), number);
+    fn count(&mut self, run: &'static str, r: &Request, number: u32) {
+        self.counts.count((self.of, run, r.call, r.sliced), number);
     }
 }
 
@@ -171,6 +179,7 @@ fn held_to(r: &Request, original_decides: bool, both: bool) -> &'static str {
         }
         (Structure::Frame, true, false) => "calls on frames, held to the original",
         (Structure::Frame, true, true) => "calls on frames, held to the original and to the model",
+        (Structure::Frame, false, true) if r.sliced => "calls on frames, held to the model and to the original",
         (Structure::Frame, false, false) => "calls on frames with 8x8 flags, held to the model",
         (Structure::Frame, false, true) => "calls on frames with 8x8 flags, held to the model and to the original",
         (Structure::Field, _, false) => "calls on fields, held to the model",
@@ -185,6 +194,16 @@ fn held_to_with_tables(original_decides: bool, both: bool) -> &'static str {
         (true, true) => "calls with reference tables among these, held to the original and to the model",
         (false, false) => "calls with reference tables among these, held to the model",
         (false, true) => "calls with reference tables among these, held to the model and to the original",
+    }
+}
+
+/// What a call with slices is held to, in words; it is told as one without them too.
+fn held_to_with_slices(original_decides: bool, both: bool) -> &'static str {
+    match (original_decides, both) {
+        (true, false) => "calls by one slice of mode 0 among these, held to the original",
+        (true, true) => "calls by one slice of mode 0 among these, held to the original and to the model",
+        (false, false) => "calls with slices among these, held to the model",
+        (false, true) => "calls with slices among these, held to the model and to the original, asked by chunks",
     }
 }
 

@@ -2,6 +2,7 @@
 //! fails.
 
 use crate::request::{Buffer, Call, Lent, Request};
+use deblock::SliceRecord;
 use std::fmt::{Debug, Write};
 use std::time::{Duration, Instant};
 
@@ -26,6 +27,8 @@ pub fn smallest(r: &Request, fails: impl Fn(&Request) -> bool) -> Request {
     plain(&mut best, |r| &mut r.ref1, -1, &mut keep);
     plain(&mut best, |r| &mut r.ref0, 0, &mut keep);
     plain(&mut best, |r| &mut r.inter, 1, &mut keep);
+    plain(&mut best, |r| &mut r.slices, SliceRecord::default(), &mut keep);
+    plain(&mut best, |r| &mut r.numbers, 0, &mut keep);
     plain(&mut best, |r| &mut r.strengths, 0, &mut keep);
     plain(&mut best, |r| &mut r.marks, 0, &mut keep);
     plain(&mut best, |r| &mut r.qps, 30, &mut keep);
@@ -76,6 +79,7 @@ fn crop(r: &Request, area: [usize; 4]) -> Option<Request> {
     cut(&mut c.mv0, old, r.h, (8, 4), area)?;
     cut(&mut c.ref1, old, r.h, (4, 4), area)?;
     cut(&mut c.mv1, old, r.h, (8, 4), area)?;
+    cut(&mut c.numbers, old, r.h, (1, 1), area)?;
     cut(&mut c.strengths, old, r.h, (32, 1), area)?;
     let share = r.structure().share();
     cut(&mut c.luma, old, r.h, (16, 16 * share), area)?;
@@ -116,15 +120,21 @@ fn plain_numbers(best: &mut Request, fails: &impl Fn(&Request) -> bool) {
     attempt(best, fails, |r| r.t8s = Buffer::default());
     attempt(best, fails, |r| r.tables().into_iter().for_each(|table| *table = Buffer::default()));
     for list in 0..2 {
-        shorter_table(best, fails, list);
+        shorter(best, fails, |r| r.lists()[list].pictures.len(), |r, to| r.tables()[list].resize(to, 0));
     }
+    shorter(best, fails, |r| r.slices.len(), |r, to| r.slices.resize(to, SliceRecord::default()));
 }
 
 /// Cuts a table to half of its length and by one entry, again and again as long as that fails.
-fn shorter_table(best: &mut Request, fails: &impl Fn(&Request) -> bool, list: usize) {
+fn shorter(
+    best: &mut Request,
+    fails: &impl Fn(&Request) -> bool,
+    length: impl Fn(&Request) -> usize,
+    resize: impl Fn(&mut Request, usize),
+) {
     loop {
-        let length = best.lists()[list].pictures.len();
-        let mut cut = |to: usize| to < length && attempt(best, fails, |r| r.tables()[list].resize(to, 0));
+        let length = length(best);
+        let mut cut = |to: usize| to < length && attempt(best, fails, |r| resize(r, to));
         if !cut(length / 2) && !cut(length.saturating_sub(1)) {
             return;
         }
@@ -169,7 +179,7 @@ fn plain<T: Lent>(
 
 /// The case in words: the numbers, and every entry that is not the plain one.
 pub fn describe(r: &Request) -> String {
-    let mut s = format!("{:?} w {} h {} part {}", r.call, r.w, r.h, r.part);
+    let mut s = format!("{} w {} h {} part {}", r.name(), r.w, r.h, r.part);
     let mut say = |args: std::fmt::Arguments| s.write_fmt(args).expect("a string takes everything");
     say(format_args!(" x {} y {} first {} last {}", r.x, r.y, r.first, r.last));
     say(format_args!(" kind {} flat {} uniform {} offsets {:?}", r.kind, r.flat, r.uniform, r.offsets));
@@ -182,6 +192,8 @@ pub fn describe(r: &Request) -> String {
         entries("mv1", &r.mv1, 0),
         entries("pictures0", &r.pictures0, 0),
         entries("pictures1", &r.pictures1, 0),
+        entries("slices (else mode 0, offsets 0)", &r.slices, SliceRecord::default()),
+        entries("numbers", &r.numbers, 0),
         entries("strengths", &r.strengths, 0),
         entries("y (else 100)", &r.luma, 100),
         entries("u (else 100)", &r.u, 100),

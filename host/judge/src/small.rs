@@ -5,6 +5,7 @@ use crate::request::{Call, Request, Structure, FILTER_CALLS};
 use crate::session::{Outcome, Session};
 use crate::small_fields;
 use crate::small_flags;
+use crate::small_slices;
 use crate::small_tables;
 use inputs::{Rng, Texture};
 
@@ -18,6 +19,7 @@ pub fn run(s: &mut Session, share: usize) -> Outcome {
         every_strength_on_every_segment(s, &mut thin, part)?;
         every_row_range(s, part)?;
         every_limit_of_offsets(s, part)?;
+        small_slices::run(s, &mut thin, part)?;
         if part < 2 {
             // which field it is matters neither to thresholds nor to strength calls; of sides both come up
             every_side(s, &mut thin, Structure::of(part))?;

@@ -73,11 +73,12 @@ impl Archive {
     fn filter(&self, r: &mut Request) -> u32 {
         let side = self.next_side();
         let mut fences = self.fences();
-        let [f0, f1, f2, f3, f4, f5, f6, ..] = &mut *fences;
+        let [f0, f1, f2, f3, f4, f5, f6, f7, f8, ..] = &mut *fences;
         let mut luma = f0.lend(&mut r.luma, side);
         let (mut u, mut v) = (f1.lend(&mut r.u, side), f2.lend(&mut r.v, side));
         let (qps, t8s) = (f3.lend(&mut r.qps, side), f4.lend(&mut r.t8s, side));
         let (mut strengths, mut marks) = (f5.lend(&mut r.strengths, side), f6.lend(&mut r.marks, side));
+        let (slices, slice_numbers) = (f7.lend(&mut r.slices, side), f8.lend(&mut r.numbers, side));
 
         let [a, b, chroma_u, chroma_v] = r.offsets;
         let mut picture = Picture {
@@ -90,12 +91,18 @@ impl Archive {
             qps: &qps,
             t8s: &t8s,
             marks: &mut marks,
+            slices: &slices,
+            slice_numbers: &slice_numbers,
             ..Picture::default()
         };
-        match r.call {
-            Call::Whole => wire::whole(&mut picture, r.part),
-            Call::Rows => wire::rows(&mut picture, r.part, r.first, r.last),
-            _ => wire::visit(&mut picture, r.part, Place { x: r.x, y: r.y }),
+        let (p, part, at) = (&mut picture, r.part, Place { x: r.x, y: r.y });
+        match (r.call, r.sliced) {
+            (Call::Whole, false) => wire::whole(p, part),
+            (Call::Rows, false) => wire::rows(p, part, r.first, r.last),
+            (_, false) => wire::visit(p, part, at),
+            (Call::Whole, true) => wire::whole_slices(p, part),
+            (Call::Rows, true) => wire::rows_slices(p, part, r.first, r.last),
+            (_, true) => wire::visit_slices(p, part, at),
         }
     }
 }

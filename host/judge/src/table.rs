@@ -10,7 +10,7 @@ use std::ops::Range;
 type Check = fn(&Request) -> bool;
 
 /// No., "given exactly when", in the order in which they are asked.
-const TABLE: [(u32, Check); 16] = [
+const TABLE: [(u32, Check); 18] = [
     (1, size_out_of_range),
     (2, place_outside),
     (19, no_such_part),
@@ -21,6 +21,8 @@ const TABLE: [(u32, Check); 16] = [
     (7, bool_read_is_not_0_or_1),
     (8, qp_read_above_51),
     (9, strength_read_above_4),
+    (20, slice_number_read_outside_table),
+    (21, unknown_slice_mode),
     (10, reference_read_below_minus_1),
     (22, picture_number_out_of_range),
     (11, blocks_disagree_on_inter),
@@ -74,6 +76,7 @@ fn macroblock_grid_of_wrong_length(r: &Request) -> bool {
         || r.t8s.len() != n && !r.t8s.is_empty()
         || !r.call.is_strengths() && r.qps.len() != n
         || r.call == Call::Visit && r.marks.len() != n
+        || r.sliced && r.numbers.len() != n
 }
 
 fn block_grid_of_wrong_length(r: &Request) -> bool {
@@ -89,8 +92,15 @@ fn block_grid_of_wrong_length(r: &Request) -> bool {
             || !r.pictures0.is_empty() && r.pictures1.is_empty() && !no_list_1)
 }
 
+/// With slices the offsets A and B are those of every record, read or not.
 fn offset_out_of_range(r: &Request) -> bool {
-    !r.call.is_strengths() && r.offsets.iter().any(|o| !(-12..=12).contains(o))
+    let far = |offset: i32| !(-12..=12).contains(&offset);
+    let [a, b, chroma @ ..] = r.offsets;
+    let far_pair = match r.sliced {
+        true => r.slices.iter().any(|record| far(record.a.into()) || far(record.b.into())),
+        false => far(a) || far(b),
+    };
+    !r.call.is_strengths() && (far_pair || chroma.into_iter().any(far))
 }
 
 fn bool_read_is_not_0_or_1(r: &Request) -> bool {
@@ -105,6 +115,16 @@ fn qp_read_above_51(r: &Request) -> bool {
 
 fn strength_read_above_4(r: &Request) -> bool {
     macroblocks_read(r).any(|m| r.strengths[32 * m..][..32].iter().any(|&s| s > 4))
+}
+
+/// Slice numbers are read where QPs are.
+fn slice_number_read_outside_table(r: &Request) -> bool {
+    r.sliced && qps_read(r).iter().any(|&m| usize::from(r.numbers[m]) >= r.slices.len())
+}
+
+/// Of every record, read or not.
+fn unknown_slice_mode(r: &Request) -> bool {
+    r.sliced && r.slices.iter().any(|record| record.mode > 2)
 }
 
 fn reference_read_below_minus_1(r: &Request) -> bool {
@@ -165,7 +185,8 @@ pub fn flags_read(r: &Request) -> Vec<usize> {
     }
 }
 
-/// The macroblocks whose QPs are read: its own, and of a part of the picture those to the left and above.
+/// The macroblocks whose QPs and slice numbers are read: its own, and of a part of the picture those to the
+/// left and above.
 pub fn qps_read(r: &Request) -> Vec<usize> {
     match r.call {
         Call::Rows if 0 < r.first && r.first < r.last => (r.w * (r.first - 1)..r.w * r.last).collect(),

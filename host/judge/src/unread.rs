@@ -1,11 +1,14 @@
 //! What a call does not read: other bytes there change neither its answer nor what it makes of the rest, and
 //! come out as they went in. Of a field that is above all the lines of the other one, of a strength call the
-//! blocks and flags beside those that it reads, and picture numbers that no reference which is read names.
+//! blocks and flags beside those that it reads, and picture numbers that no reference which is read names; of
+//! slices the numbers that are not read, and records of slices of which no macroblock is filtered.
 
 use crate::make;
+use crate::make_slices;
 use crate::request::{Buffer, Call, Lent, Request, Structure, FILTER_CALLS, STRENGTH_CALLS};
 use crate::session::{Outcome, Session};
 use crate::table;
+use deblock::SliceRecord;
 use inputs::Rng;
 
 /// One picture of each call, with other bytes wherever it does not read.
@@ -14,12 +17,20 @@ pub fn check(s: &mut Session, r: &mut Rng, of: Structure) -> Outcome {
     let pictures = FILTER_CALLS.map(|call| make::picture(r, of, call, w, h));
     let grids =
         STRENGTH_CALLS.map(|call| if r.once_in(2) { make::grids(r, of, call, w, h) } else { still(r, of, call) });
-    for q in pictures.iter().chain(&grids) {
-        let mut other = q.clone();
-        spoil(r, &mut other);
-        s.alike("unread", q, &other)?;
-    }
-    Ok(())
+    pictures.iter().chain(&grids).try_for_each(|q| spoiled(s, r, q))
+}
+
+/// The same of each call with slices.
+pub fn check_with_slices(s: &mut Session, r: &mut Rng, of: Structure) -> Outcome {
+    let (w, h) = make::size(r, 12);
+    let pictures = FILTER_CALLS.map(|call| make_slices::picture(r, of, call, w, h));
+    pictures.iter().try_for_each(|q| spoiled(s, r, q))
+}
+
+fn spoiled(s: &mut Session, r: &mut Rng, q: &Request) -> Outcome {
+    let mut other = q.clone();
+    spoil(r, &mut other);
+    s.alike("unread", q, &other)
 }
 
 /// A strength call on a picture that stands still: few counts, and half of the 8x8 flags set, or none lent.
@@ -59,6 +70,8 @@ fn spoil(r: &mut Rng, q: &mut Request) {
     let (flags, qps, marks) = (table::flags_read(q), table::qps_read(q), table::marks_read(q));
     fill(r, &mut q.t8s, |i| flags.contains(&i));
     fill(r, &mut q.qps, |i| qps.contains(&i));
+    other_records(r, q);
+    fill(r, &mut q.numbers, |i| qps.contains(&i));
     fill(r, &mut q.marks, |i| marks.contains(&i));
 
     // samples are read of the macroblocks whose QPs are, of a field in its own lines
@@ -77,6 +90,15 @@ fn other_numbers(r: &mut Rng, table: &mut Buffer<i32>, used: &[usize]) {
     }
 }
 
+/// Other records, good ones, wherever no macroblock that is filtered has its slice. They are read, since each
+/// must be a good one, and do not tell; those of neighbours are among them.
+fn other_records(r: &mut Rng, q: &mut Request) {
+    let used: Vec<usize> = table::macroblocks_read(q).filter_map(|m| q.numbers.get(m)).map(|&n| n.into()).collect();
+    for i in (0..q.slices.len()).filter(|i| !used.contains(i)) {
+        q.slices[i] = SliceRecord { mode: r.below(3) as u8, a: r.within(-12, 12) as i8, b: r.within(-12, 12) as i8 };
+    }
+}
+
 /// Other values in all places that are not read.
 fn fill<T: Lent>(r: &mut Rng, b: &mut Buffer<T>, is_read: impl Fn(usize) -> bool) {
     for i in (0..b.len()).filter(|i| !is_read(*i)) {
@@ -90,16 +112,33 @@ mod tests {
     use crate::mistakes::Mistake;
     use crate::model::Model;
 
+    type Check = fn(&mut Session, &mut Rng, Structure) -> Outcome;
+
     /// Whether some of these checks tell.
-    fn tells(mistake: Option<Mistake>) -> bool {
+    fn tells(check: Check, mistake: Option<Mistake>) -> bool {
         let model = Model::with(mistake);
         let (mut s, mut r) = (Session::new(&model, false), Rng::new(1));
         (0..40).any(|i| check(&mut s, &mut r, [Structure::Frame, Structure::Field][i % 2]).is_err())
     }
 
     #[test]
+    fn a_slice_too_many_is_told() {
+        assert!(!tells(check_with_slices, None));
+        let too_many = [
+            Mistake::AllNumbersAsked,
+            Mistake::UpperRightNumberAsked,
+            Mistake::EmptyRangeNumbersAsked,
+            Mistake::OffsetsOfP,
+            Mistake::ModeOneNextLeft,
+            Mistake::ModeTwoOfP,
+            Mistake::RecordByNext,
+        ];
+        assert_eq!(too_many.into_iter().find(|mistake| !tells(check_with_slices, Some(*mistake))), None);
+    }
+
+    #[test]
     fn a_byte_too_many_is_told() {
-        assert!(!tells(None));
+        assert!(!tells(check, None));
         let too_many = [
             Mistake::TwelveFlagged,
             Mistake::EightUnflagged,
@@ -111,6 +150,6 @@ mod tests {
             Mistake::PastIsLast,
             Mistake::NoneIsFirst,
         ];
-        assert_eq!(too_many.into_iter().find(|mistake| !tells(Some(*mistake))), None);
+        assert_eq!(too_many.into_iter().find(|mistake| !tells(check, Some(*mistake))), None);
     }
 }

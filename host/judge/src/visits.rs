@@ -4,6 +4,7 @@
 use crate::expect::{expect, marked_in_raster_order};
 use crate::finality::Watch;
 use crate::make;
+use crate::make_slices;
 use crate::request::{Call, Request, Structure};
 use crate::session::{Failure, Outcome, Session};
 use crate::table;
@@ -58,12 +59,24 @@ impl Pictures {
     }
 }
 
+/// How a picture is made.
+type Maker = fn(&mut Rng, Structure, Call, usize, usize) -> Request;
+
 /// Whole pictures by visits. Every answer is compared; the planes are compared after every call of small
 /// pictures, and now and then in large ones. After each visit that is done, in the largest pictures after one
 /// of many, what it has made final is asked.
 pub fn sequence(s: &mut Session, r: &mut Rng, of: Structure, w: usize, h: usize) -> Outcome {
+    sequence_of(s, r, make::picture, of, w, h)
+}
+
+/// The same with slices, of two fields with slices for each.
+pub fn sequence_with_slices(s: &mut Session, r: &mut Rng, of: Structure, w: usize, h: usize) -> Outcome {
+    sequence_of(s, r, make_slices::picture, of, w, h)
+}
+
+fn sequence_of(s: &mut Session, r: &mut Rng, make: Maker, of: Structure, w: usize, h: usize) -> Outcome {
     let all = (0..of.share()).map(|i| {
-        let mut q = make::picture(r, of, Call::Visit, w, h);
+        let mut q = make(r, of, Call::Visit, w, h);
         q.marks.fill(0);
         q.part = if of == Structure::Frame { 0 } else { 1 + i as u8 };
         q
@@ -107,9 +120,13 @@ fn follow(s: &mut Session, before: &Pictures, order: &[Ask]) -> Outcome {
 /// Compares the picture that holds the planes, and so all of them, with the visited ones in raster order.
 fn compare(s: &mut Session, before: &Pictures, q: &Request, picture: usize, marks: &[Vec<u8>]) -> Outcome {
     let mut want = before.marked(marks);
-    s.note(match before.all[0].structure() {
-        Structure::Frame => "frames after visits, compared with the visited ones in raster order",
-        Structure::Field => "pairs of fields after visits, compared with the visited ones in raster order",
+    s.note(match (before.all[0].structure(), before.all[0].sliced) {
+        (Structure::Frame, false) => "frames after visits, compared with the visited ones in raster order",
+        (Structure::Field, false) => "pairs of fields after visits, compared with the visited ones in raster order",
+        (Structure::Frame, true) => "frames after visits with slices, compared with the visited ones in raster order",
+        (Structure::Field, true) => {
+            "pairs of fields after visits with slices, compared with the visited ones in raster order"
+        }
     });
     match q.difference(want.lend(picture)) {
         None => Ok(()),

@@ -10,7 +10,7 @@ pub struct Planes<'a> {
     pub v: &'a mut [u8],
 }
 
-#[derive(Clone, Copy)]
+#[derive(Clone, Copy, PartialEq)]
 pub struct Offsets {
     pub a: i32,
     pub b: i32,

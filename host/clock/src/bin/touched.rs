@@ -5,7 +5,7 @@
 //! that is not the paint tells how deep it went; a thread that calls nothing tells what of that is the
 //! thread's own. Twice, with two paints, since a byte that the call wrote may look like one.
 
-use deblock::{y4m, Flags, Grids, Kind, Part, Picture, Place, Size};
+use deblock::{y4m, Flags, Grids, Kind, Part, Picture, Place, Size, SliceRecord};
 use oracle::probed::probe::{derive_flags_into, Edges};
 use oracle::probed::{derive_mb, derive_mb_kind, MbKind};
 use std::ffi::c_void;
@@ -66,6 +66,9 @@ fn deepest(mut work: impl FnMut() + Send) -> usize {
 const SIZE: Size = Size { w: 2, h: 2 };
 const LAST: Place = Place { x: 1, y: 1 };
 const QPS: [u8; 4] = [40; 4];
+/// Two slices of mode 0 whose macroblocks alternate, so that offsets are taken anew with each.
+const SLICES: [SliceRecord; 2] = [SliceRecord { mode: 0, a: 0, b: 0 }, SliceRecord { mode: 0, a: 2, b: 2 }];
+const NUMBERS: [u16; 4] = [0, 1, 1, 0];
 
 /// Memory for a picture of two by two macroblocks in which every edge that exists is filtered in both passes.
 struct Memory {
@@ -85,13 +88,14 @@ impl Memory {
 
     fn lent(&mut self) -> Picture<'_> {
         let Memory { part, planes: [luma, u, v], strengths, marks } = self;
-        Picture { size: SIZE, part: *part, luma, u, v, strengths, qps: &QPS, marks, ..Picture::default() }
+        let (part, qps, slices, slice_numbers) = (*part, &QPS, &SLICES, &NUMBERS);
+        Picture { size: SIZE, part, luma, u, v, strengths, qps, marks, slices, slice_numbers, ..Picture::default() }
     }
 }
 
 fn main() {
     let idle = deepest(|| ());
-    let show = |name: &str, bytes: usize| println!("{name:<30}{:>6}", bytes - idle);
+    let show = |name: &str, bytes: usize| println!("{name:<36}{:>6}", bytes - idle);
     println!("bytes of stack touched, beyond a thread that calls nothing");
     // inter blocks that use both lists, each with a motion of its own; with tables most is read
     let mv: Vec<i16> = (0..128).collect();
@@ -125,6 +129,14 @@ fn filtering(show: &dyn Fn(&str, usize), part: Part) {
         deepest(|| {
             p.marks.copy_from_slice(&[1, 1, 1, 0]);
             assert!(p.visit(LAST).is_done());
+        })
+    });
+    show("whole picture with slices", deepest(|| assert!(p.whole_slices().is_done())));
+    show("rows with slices", deepest(|| assert!(p.rows_slices(0..2).is_done())));
+    show("visit with slices", {
+        deepest(|| {
+            p.marks.copy_from_slice(&[1, 1, 1, 0]);
+            assert!(p.visit_slices(LAST).is_done());
         })
     });
 }

@@ -3,7 +3,7 @@
 use super::picture::Picture;
 use crate::cpu_time::timed;
 use crate::{H, SIZE, W};
-use deblock::{Offsets, Part, Place, Size};
+use deblock::{Offsets, Part, Place, Size, SliceRecord};
 
 #[derive(Clone, Copy, Debug)]
 pub enum Way {
@@ -20,10 +20,32 @@ pub enum Way {
     /// The archive's whole-picture call on each field of a frame of the same samples, which gives other
     /// samples. The top field has the upper half's strengths, QPs and flags, the bottom field the lower's.
     Fields,
+    /// The archive's whole-picture call by one slice, which a table of one record has.
+    WholeByOne,
+    /// .. and by one slice a row, 36 of them.
+    WholeByRows,
+    /// The archive's visits in raster order by one slice.
+    RasterByOne,
+    /// .. and by one a row.
+    RasterByRows,
+    /// .. which stand in a table of 300 records.
+    RasterByMany,
 }
 
 impl Way {
-    pub const ALL: [Way; 6] = [Way::Original, Way::Whole, Way::Raster, Way::Wavefront, Way::Asked, Way::Fields];
+    pub const ALL: [Way; 11] = [
+        Way::Original,
+        Way::Whole,
+        Way::Raster,
+        Way::Wavefront,
+        Way::Asked,
+        Way::Fields,
+        Way::WholeByOne,
+        Way::WholeByRows,
+        Way::RasterByOne,
+        Way::RasterByRows,
+        Way::RasterByMany,
+    ];
 
     /// The seconds that filtering takes. What it needs beside the planes is made before the clock starts.
     pub fn seconds(self, picture: &Picture, planes: &mut [Vec<u8>; 3]) -> f64 {
@@ -38,6 +60,11 @@ impl Way {
             }
             Way::Asked => visits(picture, planes, SIZE.places().collect(), ask),
             Way::Fields => fields(picture, planes),
+            Way::WholeByOne => by_slices(picture, planes, 1, whole_slices),
+            Way::WholeByRows => by_slices(picture, planes, H, whole_slices),
+            Way::RasterByOne => by_slices(picture, planes, 1, visit_slices),
+            Way::RasterByRows => by_slices(picture, planes, H, visit_slices),
+            Way::RasterByMany => by_slices(picture, planes, 300, visit_slices),
         }
     }
 }
@@ -88,7 +115,30 @@ fn fields(picture: &Picture, [luma, u, v]: &mut [Vec<u8>; 3]) -> f64 {
     })
 }
 
-fn archive(picture: &Picture, [luma, u, v]: &mut [Vec<u8>; 3], work: impl FnOnce(&mut deblock::Picture)) -> f64 {
+fn whole_slices(lent: &mut deblock::Picture) {
+    assert!(lent.whole_slices().is_done());
+}
+
+fn visit_slices(lent: &mut deblock::Picture) {
+    for at in SIZE.places() {
+        assert!(lent.visit_slices(at).is_done());
+    }
+}
+
+fn archive(picture: &Picture, planes: &mut [Vec<u8>; 3], work: impl FnOnce(&mut deblock::Picture)) -> f64 {
+    by_slices(picture, planes, 0, work)
+}
+
+/// With a table of so many records, all of mode 0 with offsets 0, so that calls with slices give the plain
+/// calls' samples: all macroblocks are of one slice, or, where there are records for that, each row is one.
+fn by_slices(
+    picture: &Picture,
+    [luma, u, v]: &mut [Vec<u8>; 3],
+    records: usize,
+    work: impl FnOnce(&mut deblock::Picture),
+) -> f64 {
+    let number = |m: usize| if records < H { 0 } else { (m / W) as u16 };
+    let numbered = if records == 0 { 0 } else { W * H };
     let mut lent = deblock::Picture {
         size: SIZE,
         luma,
@@ -98,6 +148,8 @@ fn archive(picture: &Picture, [luma, u, v]: &mut [Vec<u8>; 3], work: impl FnOnce
         qps: &picture.qps,
         t8s: &picture.t8s,
         marks: &mut vec![0; W * H],
+        slices: &vec![SliceRecord::default(); records],
+        slice_numbers: &(0..numbered).map(number).collect::<Vec<u16>>(),
         ..deblock::Picture::default()
     };
     timed(|| work(&mut lent))

@@ -2,9 +2,9 @@
 
 use super::rows::Rust::{CannotBeLent, Does, DoesInRelease};
 use super::rows::{
-    around_block_0, beside, crossed_indices, flagless, frame, kind, row, rows, two, two_indices, two_lists,
+    around_block_0, beside, crossed_indices, flagless, frame, kind, one_slice, row, rows, two, two_indices, two_lists,
     unused_tables, visit, whole_chroma, whole_lists, with, Row, ALL_0, EACH_ALONE, INNER_3, NOTHING, NO_FIELDS,
-    NO_VISITS, PANICS,
+    NO_SLICES, NO_VISITS, PANICS,
 };
 use super::{edge, inter, intra, original, picture, strengths};
 use crate::request::{Call, Request};
@@ -170,6 +170,13 @@ pub const LENGTHS: &[Row] = &[
         Does(&[("as with the first", |seen| seen.as_with(|q| q.t8s.resize(1, 0)))]),
     ),
     row(4, "no marks, or two, for 1 by 1", visit, &[|q| q.marks.resize(0, 0), |q| q.marks.resize(2, 0)], NO_VISITS),
+    row(
+        4,
+        "no slice number, or two, for 1 by 1",
+        one_slice,
+        &[|q| q.numbers.resize(0, 0), |q| q.numbers.resize(2, 0)],
+        NO_SLICES,
+    ),
     row(
         4,
         "31 or 33 bytes lent for the strengths of one macroblock",

@@ -4,6 +4,7 @@ use super::{edge, inter, original, picture, strengths, Claim, Seen};
 use crate::original::lent;
 use crate::request::{Call, Request};
 use crate::table;
+use deblock::SliceRecord;
 use oracle::Blocks;
 
 /// Inputs that are refused with the number `no`: each is `base`, which is taken, after one of `spoils`.
@@ -25,6 +26,7 @@ pub enum Rust {
 
 pub const NO_VISITS: Rust = Rust::CannotBeLent("it has no visits");
 pub const NO_FIELDS: Rust = Rust::CannotBeLent("it has no field pictures");
+pub const NO_SLICES: Rust = Rust::CannotBeLent("it has no slices");
 pub const NOTHING: Claim = ("does nothing", Seen::nothing);
 pub const PANICS: Claim = ("panics", Seen::panics);
 pub const ALL_0: Claim = ("all 0", |seen| seen.own == Some([0; 32]));
@@ -68,6 +70,13 @@ pub fn turned(strength: u8) -> Request {
 
 pub fn rows() -> Request {
     with(frame(), |q| (q.call, q.last) = (Call::Rows, 1))
+}
+
+/// The picture by one slice of mode 0.
+pub fn one_slice() -> Request {
+    with(frame(), |q| {
+        (q.sliced, q.slices, q.numbers) = (true, vec![SliceRecord::default()].into(), vec![0].into());
+    })
 }
 
 pub fn visit() -> Request {

@@ -5,6 +5,7 @@ use super::rows::{around_block_0, unlisted};
 use super::{edge, inter, intra, original, picture, strengths};
 use crate::request::{Call, Request, STRENGTH_CALLS};
 use crate::subject::{Archive, Subject};
+use deblock::SliceRecord;
 use oracle::{Offsets, Planes, Stored};
 
 /// A row, and whether what it says of the archive and of the original is so. What it says of the standard, of
@@ -33,19 +34,23 @@ pub const STATED: &[Stated] = &[
         holds: odd_offsets,
     },
     Stated {
-        what: "one pair of offsets A, B for a picture",
+        what: "offsets A, B of slices",
         input: "two macroblocks of QP 30, the second of a slice with FilterOffsetA 2",
-        here: "index 30 on every edge, as the Rust",
-        elsewhere: "the standard has 32 on the second one's edges",
-        holds: one_pair_of_offsets,
+        here: "with slices index 30 on the first one's edges and 32 on the second one's, the edge between them among \
+               these, as the standard; a call without slices has one pair for the picture, as the Rust",
+        elsewhere: "the Rust has one pair for the picture: 30, or 32, on every edge",
+        holds: offsets_of_slices,
     },
     Stated {
-        what: "slices are not told apart",
+        what: "filter modes of slices",
         input: "two macroblocks of two slices, the second with `disable_deblocking_filter_idc` 1 or 2",
-        here: "the edge between them is filtered, as the Rust; a caller who stores strength 0 there gets what the \
-               standard does",
-        elsewhere: "the standard leaves it",
-        holds: slices,
+        here: "with slices the edge between them is left, with 1 the second one's inner edges too, as the standard; a \
+               call without slices filters them, as the Rust",
+        elsewhere: "the Rust has no slices, and filters them; it leaves an edge on which strength 0 is stored. With \
+                    slices demand 2 rests on the standard (ITU-T H.264 clauses 8.7 and 8.7.2.2) and on a model of it \
+                    in `host/judge`, and recordings of a real decoder confirm it; with one slice of mode 0 the Rust \
+                    decides",
+        holds: modes_of_slices,
     },
     Stated {
         what: "coefficients under an 8x8 transform",
@@ -205,26 +210,66 @@ fn odd_offsets(archive: &Archive) -> bool {
     seen == [Some(true), Some(false), Some(true), Some(false), Some(false)]
 }
 
-/// Alpha is 25 at index 30 and 32 at index 32: a step of 25 on each edge of two macroblocks is filtered
-/// everywhere or nowhere, as the one pair of offsets says.
-fn one_pair_of_offsets(archive: &Archive) -> bool {
-    let edges = |across: u8, a: i32| {
-        let mut q = picture(2, 1);
-        q.luma.iter_mut().enumerate().for_each(|(i, s)| *s = 60 + across * (i / 4 % 2) as u8);
-        (q.strengths, q.offsets[0]) = (vec![1; 64].into(), a);
-        let after = both(archive, &q)?;
-        Some((1..8).map(|e| after.luma[4 * e] != q.luma[4 * e]).collect::<Vec<bool>>())
-    };
-    [edges(24, 0), edges(25, 0), edges(25, 2)] == [true, false, true].map(|all| Some(vec![all; 7]))
+/// Two macroblocks of two slices with these modes and offsets A: stripes of four columns, one 25 above the
+/// next.
+fn two_slices(modes: [u8; 2], a: [i8; 2]) -> Request {
+    let mut q = picture(2, 1);
+    for plane in [&mut q.luma, &mut q.u, &mut q.v] {
+        plane.iter_mut().enumerate().for_each(|(i, s)| *s = 60 + 25 * (i / 4 % 2) as u8);
+    }
+    (q.strengths, q.sliced) = (vec![1; 64].into(), true);
+    q.slices = [0, 1].map(|i| SliceRecord { mode: modes[i], a: a[i], b: 0 }).to_vec().into();
+    q.numbers = vec![0, 1].into();
+    q
 }
 
-fn slices(archive: &Archive) -> bool {
-    let changes = |strength: u8| {
-        let mut q = picture(2, 1);
-        q.strengths = [[0; 32], edge(0, strength)].concat().into();
-        both(archive, &q).map(|after| after.luma != q.luma && after.u != q.u && after.v != q.v)
+/// The vertical luma edges, of 1 to 7, that are filtered.
+fn filtered(before: &Request, after: &Request) -> Vec<usize> {
+    (1..8).filter(|e| after.luma[4 * e] != before.luma[4 * e]).collect()
+}
+
+/// .. by the archive with these slices.
+fn filtered_by_slices(archive: &Archive, q: &Request) -> Option<Vec<usize>> {
+    let mut after = q.clone();
+    (archive.call(&mut after) == 0).then(|| filtered(q, &after))
+}
+
+/// .. by both without them, with this offset A.
+fn filtered_plainly(archive: &Archive, q: &Request, a: i32) -> Option<Vec<usize>> {
+    let plain = Request { sliced: false, offsets: [a, 0, 0, 0], ..q.clone() };
+    both(archive, &plain).map(|after| filtered(&plain, &after))
+}
+
+/// Alpha is 25 at index 30 and 32 at index 32: the step is filtered with offset A 2 and not with 0.
+fn offsets_of_slices(archive: &Archive) -> bool {
+    let q = two_slices([0; 2], [0, 2]);
+    let plainly = [0, 2].map(|a| filtered_plainly(archive, &q, a));
+    plainly == [Some(vec![]), Some((1..8).collect())] && filtered_by_slices(archive, &q) == Some((4..8).collect())
+}
+
+fn modes_of_slices(archive: &Archive) -> bool {
+    let left = |mode: u8| {
+        let q = two_slices([0, mode], [2; 2]);
+        let plainly = filtered_plainly(archive, &q, 2) == Some((1..8).collect());
+        filtered_by_slices(archive, &q).filter(|_| plainly)
     };
-    [changes(3), changes(4), changes(0)] == [Some(true), Some(true), Some(false)]
+    let unstored = {
+        let mut q = two_slices([0; 2], [2; 2]);
+        q.strengths[32..36].fill(0);
+        filtered_plainly(archive, &q, 2)
+    };
+    let one_slice = {
+        let q = Request { numbers: vec![1; 2].into(), ..two_slices([0; 2], [0, 2]) };
+        let mut after = q.clone();
+        let plain = both(archive, &Request { sliced: false, offsets: [2, 0, 0, 0], ..q.clone() });
+        archive.call(&mut after) == 0
+            && plain.is_some_and(|plain| [plain.luma, plain.u, plain.v] == [after.luma, after.u, after.v])
+    };
+    left(0) == Some((1..8).collect())
+        && left(1) == Some(vec![1, 2, 3])
+        && left(2) == Some(vec![1, 2, 3, 5, 6, 7])
+        && left(2) == unstored
+        && one_slice
 }
 
 /// 2 on these segments, 0 elsewhere.

@@ -1,13 +1,14 @@
-//! The smallest inputs of refusals 6 to 14, a value that is read, and of 19 and 22, and what the original
-//! does with them.
+//! The smallest inputs of refusals 6 to 14, a value that is read, and of 19 to 22, and what the original does
+//! with them.
 
 use super::rows::Rust::{CannotBeLent, Does, DoesInRelease};
 use super::rows::{
-    around_block_0, below, beside, flagless, flags, frame, kind, neighbours, no_references, row, turned, two,
-    two_indices, unlisted, visit, with, Row, ALL_0, INNER_3, NO_FIELDS, NO_VISITS,
+    around_block_0, below, beside, flagless, flags, frame, kind, neighbours, no_references, one_slice, row, turned,
+    two, two_indices, unlisted, visit, with, Row, ALL_0, INNER_3, NO_FIELDS, NO_SLICES, NO_VISITS,
 };
 use super::{edge, inter, intra, original, Seen};
 use crate::request::Call;
+use deblock::SliceRecord;
 
 pub const VALUES: &[Row] = &[
     row(
@@ -101,6 +102,18 @@ pub const VALUES: &[Row] = &[
             |q| q.offsets[3] = i32::MIN,
         ],
         CannotBeLent("it has one chroma offset for U and V"),
+    ),
+    row(
+        6,
+        "offset A or B 13 in a slice's record, or in one that no slice number names",
+        one_slice,
+        &[
+            |q| q.slices[0].a = 13,
+            |q| q.slices[0].b = 13,
+            |q| q.slices.resize(2, SliceRecord { mode: 0, a: 13, b: 0 }),
+            |q| q.slices.resize(2, SliceRecord { mode: 0, a: 0, b: 13 }),
+        ],
+        NO_SLICES,
     ),
     row(7, "an inter byte 2", flagless, &[|q| q.inter[0] = 2], CannotBeLent("its type is bool, without such a value")),
     row(7, "an 8x8 flag 2", frame, &[|q| q.t8s.resize(1, 2)], CannotBeLent("its type is bool, without such a value")),
@@ -302,6 +315,20 @@ pub const VALUES: &[Row] = &[
         NO_VISITS,
     ),
     row(19, "part 3, which is neither the frame nor one of its fields", frame, &[|q| q.part = 3], NO_FIELDS),
+    row(
+        20,
+        "slice number 1 by one record; slice number 0 by none",
+        one_slice,
+        &[|q| q.numbers[0] = 1, |q| q.slices = Vec::new().into()],
+        NO_SLICES,
+    ),
+    row(
+        21,
+        "mode 3 in a slice's record, or in one that no slice number names",
+        one_slice,
+        &[|q| q.slices[0].mode = 3, |q| q.slices.resize(2, SliceRecord { mode: 3, a: 0, b: 0 })],
+        NO_SLICES,
+    ),
     row(
         22,
         "index 0 in block 0 and 1 elsewhere; in the table -1, 65,536 or 2^31 - 1, then 7",

@@ -2,6 +2,7 @@
 
 use super::*;
 use crate::request::{FILTER_CALLS, STRENGTH_CALLS};
+use deblock::SliceRecord;
 
 /// A visit of (1, 1) in 3 by 2, ready, to which nothing applies.
 fn visit() -> Request {
@@ -97,6 +98,80 @@ fn each_offset_is_12_at_most_either_way() {
     for call in STRENGTH_CALLS {
         assert_eq!(after(strengths(call), |q| q.offsets = [13; 4]), 0, "it takes none");
     }
+}
+
+fn record(mode: u8, a: i8, b: i8) -> SliceRecord {
+    SliceRecord { mode, a, b }
+}
+
+/// The same visit over three slices, the macroblocks of which are 0 1 0 above 1 0 1.
+fn by_slices(call: Call) -> Request {
+    let mut q = visit();
+    (q.call, q.last, q.sliced) = (call, 2, true);
+    q.slices = vec![record(0, 0, 0), record(1, 12, -12), record(2, -12, 12)].into();
+    q.numbers = vec![0, 1, 0, 1, 0, 1].into();
+    q
+}
+
+#[test]
+fn each_check_of_slices_in_its_order() {
+    for call in FILTER_CALLS {
+        // each change is made on top of all before it: the check that is asked earlier wins
+        let mut q = by_slices(call);
+        assert_eq!(answer(&q), 0);
+        q.marks[4] = 1;
+        assert_eq!(answer(&q), if call == Call::Visit { 13 } else { 0 });
+        q.slices[2].mode = 3;
+        assert_eq!(answer(&q), 21, "of a record that no number names");
+        q.numbers[4] = 3;
+        assert_eq!(answer(&q), 20);
+        q.strengths[32 * 4 + 31] = 5;
+        assert_eq!(answer(&q), 9);
+        q.qps[3] = 52;
+        assert_eq!(answer(&q), 8);
+        q.t8s[4] = 2;
+        assert_eq!(answer(&q), 7);
+        q.slices[2].b = 13;
+        assert_eq!(answer(&q), 6, "of a record that no number names");
+        q.numbers.resize(5, 0);
+        assert_eq!(answer(&q), 4);
+        q.v.resize(0, 0);
+        assert_eq!(answer(&q), 3);
+    }
+}
+
+#[test]
+fn records_and_numbers_have_limits() {
+    for call in FILTER_CALLS {
+        let with = |change: fn(&mut Request)| after(by_slices(call), change);
+        assert_eq!([with(|q| q.slices[0].a = -12), with(|q| q.slices[0].b = 12)], [0; 2]);
+        assert_eq!([with(|q| q.slices[0].a = 13), with(|q| q.slices[1].a = -13)], [6; 2]);
+        assert_eq!([with(|q| q.slices[0].b = -128), with(|q| q.slices[2].b = 127)], [6; 2]);
+        assert_eq!([with(|q| q.numbers[4] = 2), with(|q| q.numbers[4] = 65_535)], [0, 20]);
+        assert_eq!([with(|q| q.slices.resize(2, record(0, 0, 0))), with(|q| q.slices = Vec::new().into())], [0, 20]);
+        assert_eq!([with(|q| q.numbers = Vec::new().into()), with(|q| q.numbers.resize(7, 0))], [4; 2]);
+        assert_eq!(with(|q| q.offsets = [13, -13, 0, 0]), 0, "A and B of the picture are not lent");
+        assert_eq!([with(|q| q.offsets[2] = 13), with(|q| q.offsets[3] = -13)], [6; 2]);
+        let plain = |change: fn(&mut Request)| {
+            after(by_slices(call), |q| {
+                change(q);
+                q.sliced = false;
+            })
+        };
+        assert_eq!([plain(|q| q.slices[0] = record(9, 99, 99)), plain(|q| q.numbers.fill(9))], [0; 2], "not lent");
+    }
+}
+
+#[test]
+fn slice_numbers_are_read_where_qps_are() {
+    let bad = |q: &Request| [0, 1, 2, 3, 4, 5].map(|m| after(q.clone(), |q| q.numbers[m] = 3));
+    let rows = |first, last| bad(&Request { first, last, ..by_slices(Call::Rows) });
+    assert_eq!(bad(&by_slices(Call::Whole)), [20; 6]);
+    assert_eq!(bad(&by_slices(Call::Visit)), [0, 20, 0, 20, 20, 0]);
+    assert_eq!([rows(0, 1), rows(1, 2), rows(1, 1)], [[20, 20, 20, 0, 0, 0], [20; 6], [0; 6]]);
+    let empty = |change: fn(&mut Request)| after(Request { first: 1, last: 1, ..by_slices(Call::Rows) }, change);
+    assert_eq!([empty(|q| q.slices[2].mode = 3), empty(|q| q.slices[2].a = 13)], [21, 6]);
+    assert_eq!([empty(|q| q.slices = Vec::new().into()), empty(|q| q.numbers = Vec::new().into())], [0, 4]);
 }
 
 #[test]

@@ -1,4 +1,6 @@
 pub mod Derived
 pub mod Refused
+pub mod Slices
 pub mod Turns
 pub mod Verdict
+pub mod Whole

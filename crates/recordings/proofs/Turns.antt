@@ -13,7 +13,7 @@ use Rattle.pictures.specs.Rows.{WholeOutcome}
 use Rattle.visits.specs.Promise.{visitIn, visitOf, VisitOutcome}
 use Rattle.visits.specs.Visit.{At, State}
 use Rattle.visits.proofs.Outcome.{outcome-is-visit}
-use Rattle.recordings.specs.Orders.{Recording, firstPart, WithMarks, turnOf, turnIn, visitsTo, whole, wholes, filtered}
+use Rattle.recordings.specs.Orders.{Recording, firstPart, WithMarks, turnOf, turnIn, visitsTo, wholeOf, wholes, filtered}
 use Rattle.recordings.specs.Places.{columnAt, rowAt}
 use Rattle.recordings.specs.Ways.{isWhole, visitedIn, requestOf, turnsOf}
 use Rattle.recordings.specs.declared.ways.Way.{Way}
@@ -25,6 +25,10 @@ turn way ahead part d n t {s} {s′} {i} {x} {y} p q r o =
     let w = d .size .w in
     let a : (x, y) ≡ requestOf way ahead n w t = rw (q, r, p) in
     outcome-is-visit o .1 ∙ ap (λ (at : At). visitIn part d s at .1) a
+
+-- ---- the call for a whole picture
+pub whole : {part : Part} {d : Lent} {p p′ : Planes} {k : ℕ} → WholeOutcome part d p k p′ → p′ ≡ wholeOf part d p
+whole o = rw (← o .says) (o .leaves)
 
 -- ---- one picture or two
 module _ (r : Recording) {part : Part} (e : part ≡ firstPart (r .two)) where
@@ -40,19 +44,19 @@ module _ (r : Recording) {part : Part} (e : part ≡ firstPart (r .two)) where
     two-turns h b = let f = not-false (r .two) h in rw (f, ← rw f at e, ← a, ← b)
 
   -- as wholes
-  module _ {p p′ : Planes} {k : ℕ} (a : WholeOutcome part (r .first) p k p′) where
-    first : {x : Part} → part ≡ x → p′ ≡ whole x (r .first) p
-    first q = subst (λ (y : Part). p′ ≡ whole y (r .first) p) q (rw (← a .says) (a .leaves))
+  module _ (p : Planes) {p′ : Planes} (a : p′ ≡ wholeOf part (r .first) p) where
+    first : {x : Part} → part ≡ x → p′ ≡ wholeOf x (r .first) p
+    first q = subst (λ (y : Part). p′ ≡ wholeOf y (r .first) p) q a
 
     pub one-whole : not (r .two) ≡ true → p′ ≡ wholes r p
     unfolding wholes
     one-whole h = let f = not-true (r .two) h in rw f (first (rw f at e))
 
-    pub two-wholes : {p″ : Planes} {j : ℕ} → not (r .two) ≡ false → WholeOutcome (Field 1) (r .second) p′ j p″ → p″ ≡ wholes r p
+    pub two-wholes : {p″ : Planes} → not (r .two) ≡ false → p″ ≡ wholeOf (Field 1) (r .second) p′ → p″ ≡ wholes r p
     unfolding wholes
     two-wholes h b =
         let f = not-false (r .two) h in
-        rw f (rw (← b .says) (b .leaves) ∙ ap (whole (Field 1) (r .second)) (first (rw f at e)))
+        rw f (b ∙ ap (wholeOf (Field 1) (r .second)) (first (rw f at e)))
 
 -- a frame has no second turn: its turn is a visit, and no more
 pub turn-of-frame : (way : Way) (r : Recording) (t : ℕ) (s : WithMarks) → r .two ≡ false → turnIn way r t s

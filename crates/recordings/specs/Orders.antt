@@ -10,14 +10,18 @@ use Rattle.laws.specs.Loop.{upTo}
 use Rattle.edges.specs.Fields.{onPart}
 use Rattle.edges.specs.Picture.{Planes, planes, rowsOf}
 use Rattle.sizes.specs.declared.Part.{Part}
+use Rattle.sizes.specs.declared.Size.{Size}
 use Rattle.sizes.specs.declared.Part.the-variants.{Frame, Field}
-use Rattle.pictures.specs.Checks.{Lent, lent, heldOf}
+use Rattle.slices.specs.declared.ChromaOffsets.{ChromaOffsets}
+use Rattle.pictures.specs.Checks.{Lent, lent, lentSlices, heldOf}
 use Rattle.pictures.specs.Rows.{rowAnswer}
 use Rattle.visits.specs.Promise.{visitIn}
 use Rattle.visits.specs.Visit.{State}
 use Rattle.recordings.specs.Bytes.{zeros, copied, ones}
+use Rattle.recordings.specs.Slices.{tableRead}
 use Rattle.recordings.specs.Ways.{isWhole, requestOf, turnsOf}
 use Rattle.recordings.specs.declared.both.Shape.{Shape}
+use Rattle.recordings.specs.declared.given.Given.{Given}
 use Rattle.recordings.specs.declared.orders.Verdicts.{Verdicts}
 use Rattle.recordings.specs.declared.ways.Way.{Way}
 use Rattle.recordings.specs.declared.ways.Way.the-variants.{Whole, Raster, Reverse, Leaps}
@@ -30,9 +34,17 @@ pub record Recording : Type 0 where
   pub first : Lent
   pub second : Lent
 
-abbrev pub recording : Shape → List ℕ → List ℕ → List ℕ → List ℕ → List ℕ → List ℕ → Recording
-recording h s q t s₂ q₂ t₂ =
-    record { n = h .n; two = h .two; first = lent (h .size) (h .first) s q t; second = lent (h .size) (h .second) s₂ q₂ t₂ }
+-- what is lent of a picture by what it is given: with slices, rs the bytes of their table and ns the numbers,
+-- or by one pair of offsets
+abbrev pub chromaLent : Given → ChromaOffsets
+chromaLent g = record { u = g .o .«chroma_u»; v = g .o .«chroma_v» }
+
+abbrev pub lentIn : Size → Given → List ℕ → List ℕ → List ℕ → List ℕ → List ℕ → Lent
+lentIn size g rs ns s q t = cond (g .sliced) (lentSlices size (chromaLent g) (tableRead (g .count) rs) ns s q t) (lent size (g .o) s q t)
+
+abbrev pub recording : Shape → List ℕ → List ℕ → List ℕ → List ℕ → List ℕ → List ℕ → List ℕ → List ℕ → List ℕ → List ℕ → Recording
+recording h rs ns s q t rs₂ ns₂ s₂ q₂ t₂ =
+    record { n = h .n; two = h .two; first = lentIn (h .size) (h .first) rs ns s q t; second = lentIn (h .size) (h .second) rs₂ ns₂ s₂ q₂ t₂ }
 
 -- the first picture is the frame, or its top field: the even lines
 abbrev pub firstPart : Bool → Part
@@ -73,11 +85,11 @@ visitsTo k way r = upTo k (turnIn way r)
 
 -- ---- the call for a whole picture: all rows, or the planes as they are where it is refused; of a frame, or
 -- of the top field and then of the bottom field
-abbrev pub whole : Part → Lent → Planes → Planes
-whole part d p = cond (eqb (rowAnswer part d 0 (d .size .h) p) 0) (onPart part (d .size) (rowsOf (heldOf d) 0 (d .size .h)) p) p
+abbrev pub wholeOf : Part → Lent → Planes → Planes
+wholeOf part d p = cond (eqb (rowAnswer part d 0 (d .size .h) p) 0) (onPart part (d .size) (rowsOf (heldOf d) 0 (d .size .h)) p) p
 
 unfoldable pub wholes : Recording → Planes → Planes
-wholes r p = cond (r .two) (whole (Field 1) (r .second) (whole (Field 0) (r .first) p)) (whole Frame (r .first) p)
+wholes r p = cond (r .two) (wholeOf (Field 1) (r .second) (wholeOf (Field 0) (r .first) p)) (wholeOf Frame (r .first) p)
 
 -- ---- what a way makes of planes and marks
 unfoldable pub filtered : Way → Recording → WithMarks → WithMarks

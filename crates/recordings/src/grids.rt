@@ -9,6 +9,7 @@ ghost use Rattle.laws.specs.Some.{every};
 ghost use Rattle.motion.specs.Grids.{grids};
 ghost use Rattle.recordings.specs.Grids.{servedAt, derivedTo, DerivedAll, FromFile};
 ghost use Rattle.recordings.specs.Places.{columnAt, rowAt};
+ghost use Rattle.recordings.specs.Slices.{signedOf};
 use crate::bytes::byte_at;
 use crate::bytes::fill;
 use crate::bytes::joined;
@@ -17,7 +18,9 @@ use sizes::Size;
 use strengths::calls::derive_mb;
 
 // A byte that stands for -128 to 127.
-fn signed(b: u8) -> i8 {
+pub fn signed(b: u8) -> i8
+    ensures { λ r. ⌜ r ≡ signedOf b ⌝ }
+{
     if b < 128 {
         return b as i8;
     }

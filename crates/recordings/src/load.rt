@@ -2,7 +2,9 @@
 // are lent. No contract can say what a file holds: it is proved that reading is safe and ends.
 ghost use Prim.Native.Nat.{_≤_};
 use crate::bytes::fill;
+use crate::given::Given;
 use crate::grids;
+use crate::slicing;
 use crate::space;
 use crate::tables;
 use edges::Offsets;
@@ -23,13 +25,15 @@ pub fn three(fd: i32, a: &mut [u8], b: &mut [u8], c: &mut [u8]) -> bool {
 }
 
 // What a header says: the size and the number of macroblocks of a picture, whether there are two pictures,
-// list 1, an 8x8 grid and reference tables, whether the strengths are free of grids, the chroma offsets.
+// list 1, an 8x8 grid, slices and reference tables, whether the strengths are free of grids, and the chroma
+// offsets.
 pub struct Head {
     pub size: Size,
     pub n: usize,
     pub two: bool,
     pub lists: bool,
     pub t8: bool,
+    pub slices: bool,
     pub tables: bool,
     pub free: bool,
     pub chroma_u: i32,
@@ -43,11 +47,11 @@ struct Strengths {
     same: bool,
 }
 
-// .. of all of a picture, with its offsets.
+// .. of all of a picture, with what it is given.
 pub struct Loaded {
     pub good: bool,
     pub same: bool,
-    pub o: Offsets,
+    pub given: Given,
 }
 
 // .. of all pictures; `free`: the strengths are free of grids.
@@ -96,15 +100,31 @@ fn load_strengths(
     }
 }
 
-// Reads the parts of a picture, in the file's order: offsets, tables, QPs q, 8x8 flags t, grids, strengths s.
-pub fn load(fd: i32, head: Head, q: &mut [u8], t: &mut [u8], s: &mut [u8]) -> Loaded {
+// A and B of the picture stand for nothing beside slices, and are 0 there.
+fn fitting(slices: bool, a: u8, b: u8) -> bool {
+    !slices | ((a == 0) & (b == 0))
+}
+
+// Reads the parts of a picture, in the file's order: offsets, table of slices rs, reference tables, QPs q,
+// 8x8 flags t, slice numbers ns, grids, strengths s.
+pub fn load(
+    fd: i32,
+    head: Head,
+    rs: &mut [u8],
+    q: &mut [u8],
+    t: &mut [u8],
+    ns: &mut [u16],
+    s: &mut [u8],
+) -> Loaded {
     let mut ab = [0u8; 2];
-    let offsets = fill(fd, &mut ab);
+    let offsets = fill(fd, &mut ab) & fitting(head.slices, ab[0], ab[1]);
+    let slices = slicing::table_if(head.slices, fd, rs);
     let mut pictures0 = space::pictures();
     let mut pictures1 = space::pictures();
     let list0 = tables::read_if(head.tables, fd, &mut pictures0);
     let list1 = tables::read_if(head.tables, fd, &mut pictures1);
-    let first = offsets & list0.good & list1.good & fill(fd, q) & fill(fd, t);
+    let before = offsets & slices.good & list0.good & list1.good;
+    let first = before & fill(fd, q) & fill(fd, t) & slicing::read_numbers(fd, ns);
     let mut made = space::strengths();
     let k = at_most(s.len(), 3840);
     let last = load_strengths(
@@ -122,17 +142,30 @@ pub fn load(fd: i32, head: Head, q: &mut [u8], t: &mut [u8], s: &mut [u8]) -> Lo
         chroma_u: head.chroma_u,
         chroma_v: head.chroma_v,
     };
+    let given = Given {
+        sliced: head.slices,
+        o,
+        count: slices.count,
+    };
     Loaded {
         good: first & last.good,
         same: last.same,
-        o,
+        given,
     }
 }
 
 // .. of the second picture, where there is one.
-pub fn load_second(fd: i32, head: Head, q: &mut [u8], t: &mut [u8], s: &mut [u8]) -> Loaded {
+pub fn load_second(
+    fd: i32,
+    head: Head,
+    rs: &mut [u8],
+    q: &mut [u8],
+    t: &mut [u8],
+    ns: &mut [u16],
+    s: &mut [u8],
+) -> Loaded {
     if head.two {
-        return load(fd, head, q, t, s);
+        return load(fd, head, rs, q, t, ns, s);
     }
     let o = Offsets {
         a: 0,
@@ -140,9 +173,14 @@ pub fn load_second(fd: i32, head: Head, q: &mut [u8], t: &mut [u8], s: &mut [u8]
         chroma_u: 0,
         chroma_v: 0,
     };
+    let given = Given {
+        sliced: false,
+        o,
+        count: 0,
+    };
     Loaded {
         good: true,
         same: true,
-        o,
+        given,
     }
 }

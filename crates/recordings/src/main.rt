@@ -1,17 +1,19 @@
 // Replays recordings (FORMAT.md) of a real decoder and of the Rust original. The arguments name the files,
-// which hold one recording or several end to end, each of a frame or of the two fields of one. The strengths
-// derived from the recorded grids are those of the file, and the planes before the filter become those after
-// it, each picture filtered as a whole, and by visits in three orders, those of two fields mixed. It prints a
-// line for each; what it must print (stdout) is that all are equal.
+// which hold one recording or several end to end, each of a frame or of the two fields of one, with slices or
+// without. The strengths derived from the recorded grids are those of the file, and the planes before the
+// filter become those after it, each picture filtered as a whole, and by visits in three orders, those of two
+// fields mixed. It prints a line for each; what it must print (stdout) is that all are equal.
 ghost use mathlib.Core.Path.{_≡_};
 ghost use Prim.Native.Nat.{_*_, _≤_};
 ghost use Rattle.recordings.specs.Orders.{mostOf};
 
 mod both;
 mod bytes;
+mod given;
 mod grids;
 mod load;
 mod orders;
+mod slicing;
 mod space;
 mod tables;
 mod ways;
@@ -20,7 +22,7 @@ use both::Shape;
 use bytes::number;
 use bytes::text;
 use bytes::verdict;
-use edges::Offsets;
+use given::Given;
 use load::Found;
 use load::Head;
 use sizes::Size;
@@ -41,7 +43,7 @@ fn same_whole(two: bool, good: bool) {
     verdict(b"picture", good);
 }
 
-fn shape(head: Head, first: Offsets, second: Offsets) -> Shape {
+fn shape(head: Head, first: Given, second: Given) -> Shape {
     let size = head.size;
     Shape {
         size,
@@ -63,9 +65,13 @@ fn report(
     ay: &[u8],
     au: &[u8],
     av: &[u8],
+    rs: &[u8],
+    ns: &[u16],
     s: &[u8],
     q: &[u8],
     t: &[u8],
+    rs2: &[u8],
+    ns2: &[u16],
     s2: &[u8],
     q2: &[u8],
     t2: &[u8],
@@ -75,7 +81,25 @@ fn report(
         return;
     }
     same_strengths(found.free, found.same);
-    let d = orders::all(h, luma, u, v, ay, au, av, s, q, t, s2, q2, t2);
+    let d = orders::all(
+        h,
+        luma,
+        u,
+        v,
+        ay,
+        au,
+        av,
+        rs,
+        ns,
+        s,
+        q,
+        t,
+        rs2,
+        ns2,
+        s2,
+        q2,
+        t2,
+    );
     same_whole(h.two, d.whole);
     verdict(b"raster order", d.raster);
     verdict(b"reverse order", d.reverse);
@@ -93,24 +117,47 @@ fn replay(
     ay: &mut [u8],
     au: &mut [u8],
     av: &mut [u8],
+    rs: &mut [u8],
+    ns: &mut [u16],
     s: &mut [u8],
     q: &mut [u8],
     t: &mut [u8],
+    rs2: &mut [u8],
+    ns2: &mut [u16],
     s2: &mut [u8],
     q2: &mut [u8],
     t2: &mut [u8],
 ) -> bool {
     let before = load::three(fd, luma, u, v);
     let after = load::three(fd, ay, au, av);
-    let one = load::load(fd, head, q, t, s);
-    let two = load::load_second(fd, head, q2, t2, s2);
+    let one = load::load(fd, head, rs, q, t, ns, s);
+    let two = load::load_second(fd, head, rs2, q2, t2, ns2, s2);
     let found = Found {
         whole: before & after & one.good & two.good,
         free: head.free,
         same: one.same & two.same,
     };
-    let h = shape(head, one.o, two.o);
-    report(found, h, luma, u, v, ay, au, av, s, q, t, s2, q2, t2);
+    let h = shape(head, one.given, two.given);
+    report(
+        found,
+        h,
+        luma,
+        u,
+        v,
+        ay,
+        au,
+        av,
+        rs,
+        ns,
+        s,
+        q,
+        t,
+        rs2,
+        ns2,
+        s2,
+        q2,
+        t2,
+    );
     found.whole
 }
 
@@ -134,6 +181,8 @@ fn in_space(fd: i32, head: Head) -> bool
     let kt = grids::only_if(head.t8, n);
     let n2 = grids::only_if(head.two, n);
     let ks2 = 32 * n2;
+    let kn = grids::only_if(head.slices, n);
+    let kn2 = grids::only_if(head.slices, n2);
     let kt2 = grids::only_if(head.t8, n2);
     let luma = &mut space::luma()[..ky];
     let u = &mut space::chroma()[..kc];
@@ -141,22 +190,44 @@ fn in_space(fd: i32, head: Head) -> bool
     let ay = &mut space::luma()[..ky];
     let au = &mut space::chroma()[..kc];
     let av = &mut space::chroma()[..kc];
+    let rs = &mut space::records()[..192];
+    let ns = &mut space::numbers()[..kn];
     let s = &mut space::strengths()[..ks];
     let q = &mut space::marks()[..n];
     let t = &mut space::marks()[..kt];
+    let rs2 = &mut space::records()[..192];
+    let ns2 = &mut space::numbers()[..kn2];
     let s2 = &mut space::strengths()[..ks2];
     let q2 = &mut space::marks()[..n2];
     let t2 = &mut space::marks()[..kt2];
-    replay(fd, head, luma, u, v, ay, au, av, s, q, t, s2, q2, t2)
+    replay(
+        fd,
+        head,
+        luma,
+        u,
+        v,
+        ay,
+        au,
+        av,
+        rs,
+        ns,
+        s,
+        q,
+        t,
+        rs2,
+        ns2,
+        s2,
+        q2,
+        t2,
+    )
 }
 
-// A header of eight bits, a frame or two fields, no slices.
+// A header of eight bits, a frame or two fields.
 fn known(head: &[u8; 14]) -> bool {
     let magic = (head[0] == b'D') & (head[1] == b'B') & (head[2] == b'V') & (head[3] == b'1');
     let small = (head[5] == 0) & (head[7] == 0);
     let pictures = (head[8] == 8) & ((head[9] == 1) | (head[9] == 2));
-    let flags = !has(head[10], 4) & (head[10] < 32);
-    magic & small & pictures & flags & (head[13] == 0)
+    magic & small & pictures & (head[10] < 32) & (head[13] == 0)
 }
 
 fn has(flags: u8, bit: u8) -> bool {
@@ -208,6 +279,7 @@ fn recording(fd: i32, name: &[u8]) -> bool {
             two,
             lists: has(head[10], 1),
             t8: has(head[10], 2),
+            slices: has(head[10], 4),
             tables: has(head[10], 8),
             free: has(head[10], 16) & (head[11] == head[12]),
             chroma_u: load::offset(head[11]),

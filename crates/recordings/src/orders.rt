@@ -28,19 +28,42 @@ fn visits_in(
     luma: &mut [u8],
     u: &mut [u8],
     v: &mut [u8],
+    rs: &[u8],
+    ns: &[u16],
     s: &[u8],
     q: &[u8],
     t: &[u8],
+    rs2: &[u8],
+    ns2: &[u16],
     s2: &[u8],
     q2: &[u8],
     t2: &[u8],
     marks: &mut [u8],
     marks2: &mut [u8],
 )
-    ensures { λ _. ⌜ (planes (now (luma .exit)) (now (u .exit)) (now (v .exit)), now (marks .exit), now (marks2 .exit)) ≡ visitsTo (turnsOf (h .n)) way (recording h (now (s .entry)) (now (q .entry)) (now (t .entry)) (now (s2 .entry)) (now (q2 .entry)) (now (t2 .entry))) (planes (now (luma .entry)) (now (u .entry)) (now (v .entry)), now (marks .entry), now (marks2 .entry)) ⌝ }
+    ensures { λ _. ⌜ (planes (now (luma .exit)) (now (u .exit)) (now (v .exit)), now (marks .exit), now (marks2 .exit)) ≡ visitsTo (turnsOf (h .n)) way (recording h (now (rs .entry)) (now (ns .entry)) (now (s .entry)) (now (q .entry)) (now (t .entry)) (now (rs2 .entry)) (now (ns2 .entry)) (now (s2 .entry)) (now (q2 .entry)) (now (t2 .entry))) (planes (now (luma .entry)) (now (u .entry)) (now (v .entry)), now (marks .entry), now (marks2 .entry)) ⌝ }
 {
     for k in 0..turns(h.n) {
-        turn_of_both(way, k, h, luma, u, v, s, q, t, s2, q2, t2, marks, marks2);
+        turn_of_both(
+            way,
+            k,
+            h,
+            luma,
+            u,
+            v,
+            rs,
+            ns,
+            s,
+            q,
+            t,
+            rs2,
+            ns2,
+            s2,
+            q2,
+            t2,
+            marks,
+            marks2,
+        );
     }
 }
 
@@ -50,22 +73,44 @@ fn filter(
     luma: &mut [u8],
     u: &mut [u8],
     v: &mut [u8],
+    rs: &[u8],
+    ns: &[u16],
     s: &[u8],
     q: &[u8],
     t: &[u8],
+    rs2: &[u8],
+    ns2: &[u16],
     s2: &[u8],
     q2: &[u8],
     t2: &[u8],
     marks: &mut [u8],
     marks2: &mut [u8],
 )
-    ensures { λ _. ⌜ (planes (now (luma .exit)) (now (u .exit)) (now (v .exit)), now (marks .exit), now (marks2 .exit)) ≡ filtered way (recording h (now (s .entry)) (now (q .entry)) (now (t .entry)) (now (s2 .entry)) (now (q2 .entry)) (now (t2 .entry))) (planes (now (luma .entry)) (now (u .entry)) (now (v .entry)), now (marks .entry), now (marks2 .entry)) ⌝ }
+    ensures { λ _. ⌜ (planes (now (luma .exit)) (now (u .exit)) (now (v .exit)), now (marks .exit), now (marks2 .exit)) ≡ filtered way (recording h (now (rs .entry)) (now (ns .entry)) (now (s .entry)) (now (q .entry)) (now (t .entry)) (now (rs2 .entry)) (now (ns2 .entry)) (now (s2 .entry)) (now (q2 .entry)) (now (t2 .entry))) (planes (now (luma .entry)) (now (u .entry)) (now (v .entry)), now (marks .entry), now (marks2 .entry)) ⌝ }
 {
     if is_whole(way) {
-        whole_of_both(h, luma, u, v, s, q, t, s2, q2, t2);
+        whole_of_both(h, luma, u, v, rs, ns, s, q, t, rs2, ns2, s2, q2, t2);
         return;
     }
-    visits_in(way, h, luma, u, v, s, q, t, s2, q2, t2, marks, marks2);
+    visits_in(
+        way,
+        h,
+        luma,
+        u,
+        v,
+        rs,
+        ns,
+        s,
+        q,
+        t,
+        rs2,
+        ns2,
+        s2,
+        q2,
+        t2,
+        marks,
+        marks2,
+    );
 }
 
 fn copies(ty: &mut [u8], tu: &mut [u8], tv: &mut [u8], luma: &[u8], u: &[u8], v: &[u8])
@@ -92,14 +137,18 @@ fn holds(
     ay: &[u8],
     au: &[u8],
     av: &[u8],
+    rs: &[u8],
+    ns: &[u16],
     s: &[u8],
     q: &[u8],
     t: &[u8],
+    rs2: &[u8],
+    ns2: &[u16],
     s2: &[u8],
     q2: &[u8],
     t2: &[u8],
 ) -> bool
-    ensures { λ r. ⌜ (r ≡ true) ↔ ComesOut way (recording h (now (s .entry)) (now (q .entry)) (now (t .entry)) (now (s2 .entry)) (now (q2 .entry)) (now (t2 .entry))) (planes (now (luma .entry)) (now (u .entry)) (now (v .entry))) (planes (now (ay .entry)) (now (au .entry)) (now (av .entry))) ⌝ }
+    ensures { λ r. ⌜ (r ≡ true) ↔ ComesOut way (recording h (now (rs .entry)) (now (ns .entry)) (now (s .entry)) (now (q .entry)) (now (t .entry)) (now (rs2 .entry)) (now (ns2 .entry)) (now (s2 .entry)) (now (q2 .entry)) (now (t2 .entry))) (planes (now (luma .entry)) (now (u .entry)) (now (v .entry))) (planes (now (ay .entry)) (now (au .entry)) (now (av .entry))) ⌝ }
 {
     let n = h.n;
     if most(h.two) < n {
@@ -115,7 +164,25 @@ fn holds(
     let marks = &mut space::marks()[..n];
     let marks2 = &mut space::marks()[..n2];
     copies(ty, tu, tv, luma, u, v);
-    filter(way, h, ty, tu, tv, s, q, t, s2, q2, t2, marks, marks2);
+    filter(
+        way,
+        h,
+        ty,
+        tu,
+        tv,
+        rs,
+        ns,
+        s,
+        q,
+        t,
+        rs2,
+        ns2,
+        s2,
+        q2,
+        t2,
+        marks,
+        marks2,
+    );
     let visited = is_whole(way) | (all_ones(marks) & all_ones(marks2));
     visited & same(ty, tu, tv, ay, au, av)
 }
@@ -136,19 +203,99 @@ pub fn all(
     ay: &[u8],
     au: &[u8],
     av: &[u8],
+    rs: &[u8],
+    ns: &[u16],
     s: &[u8],
     q: &[u8],
     t: &[u8],
+    rs2: &[u8],
+    ns2: &[u16],
     s2: &[u8],
     q2: &[u8],
     t2: &[u8],
 ) -> Verdicts
-    ensures { λ r. ⌜ Judged (recording h (now (s .entry)) (now (q .entry)) (now (t .entry)) (now (s2 .entry)) (now (q2 .entry)) (now (t2 .entry))) (planes (now (luma .entry)) (now (u .entry)) (now (v .entry))) (planes (now (ay .entry)) (now (au .entry)) (now (av .entry))) r ⌝ }
+    ensures { λ r. ⌜ Judged (recording h (now (rs .entry)) (now (ns .entry)) (now (s .entry)) (now (q .entry)) (now (t .entry)) (now (rs2 .entry)) (now (ns2 .entry)) (now (s2 .entry)) (now (q2 .entry)) (now (t2 .entry))) (planes (now (luma .entry)) (now (u .entry)) (now (v .entry))) (planes (now (ay .entry)) (now (au .entry)) (now (av .entry))) r ⌝ }
 {
-    let whole = holds(Way::Whole, h, luma, u, v, ay, au, av, s, q, t, s2, q2, t2);
-    let raster = holds(Way::Raster, h, luma, u, v, ay, au, av, s, q, t, s2, q2, t2);
-    let reverse = holds(Way::Reverse, h, luma, u, v, ay, au, av, s, q, t, s2, q2, t2);
-    let leaps = holds(Way::Leaps, h, luma, u, v, ay, au, av, s, q, t, s2, q2, t2);
+    let whole = holds(
+        Way::Whole,
+        h,
+        luma,
+        u,
+        v,
+        ay,
+        au,
+        av,
+        rs,
+        ns,
+        s,
+        q,
+        t,
+        rs2,
+        ns2,
+        s2,
+        q2,
+        t2,
+    );
+    let raster = holds(
+        Way::Raster,
+        h,
+        luma,
+        u,
+        v,
+        ay,
+        au,
+        av,
+        rs,
+        ns,
+        s,
+        q,
+        t,
+        rs2,
+        ns2,
+        s2,
+        q2,
+        t2,
+    );
+    let reverse = holds(
+        Way::Reverse,
+        h,
+        luma,
+        u,
+        v,
+        ay,
+        au,
+        av,
+        rs,
+        ns,
+        s,
+        q,
+        t,
+        rs2,
+        ns2,
+        s2,
+        q2,
+        t2,
+    );
+    let leaps = holds(
+        Way::Leaps,
+        h,
+        luma,
+        u,
+        v,
+        ay,
+        au,
+        av,
+        rs,
+        ns,
+        s,
+        q,
+        t,
+        rs2,
+        ns2,
+        s2,
+        q2,
+        t2,
+    );
     Verdicts {
         whole,
         raster,

@@ -11,6 +11,19 @@ pub fn marks() -> [u8; 120]
     [0; 120]
 }
 
+pub fn numbers() -> [u16; 120]
+    ensures { λ r. ⌜ 120 ≡ length r ⌝ }
+{
+    [0; 120]
+}
+
+// For tables of at most 64 slices.
+pub fn records() -> [u8; 192]
+    ensures { λ r. ⌜ 192 ≡ length r ⌝ }
+{
+    [0; 192]
+}
+
 pub fn blocks() -> [u8; 1920]
     ensures { λ r. ⌜ 1920 ≡ length r ⌝ }
     ensures { λ r. ⌜ r ≡ zeros 1920 ⌝ }

@@ -1,7 +1,9 @@
 //! Pictures as the filter takes them: three planes, and what is lent with them.
 
+use crate::lent::Lent;
 use crate::part;
 use crate::raw::{samples, Sample, View};
+use crate::slices::Slices;
 use deblock::{Offsets, Part, Place, Size};
 
 #[derive(Clone, PartialEq, Eq)]
@@ -16,7 +18,9 @@ pub struct Picture {
 /// What filtering a frame or a field needs beside the planes.
 pub struct Settings {
     pub part: Part,
+    /// A and B are 0 where there are slices, which have their own.
     pub offsets: Offsets,
+    pub slices: Option<Slices>,
     pub strengths: Vec<u8>,
     pub qps: Vec<u8>,
     pub t8s: Vec<u8>,
@@ -31,15 +35,25 @@ impl Picture {
     }
 
     /// The picture as calls take it. Strengths are those of `settings`, or others: calls may write them.
-    pub fn lent<'a>(
-        &'a mut self,
-        settings: &'a Settings,
-        strengths: &'a mut [u8],
-        marks: &'a mut [u8],
-    ) -> deblock::Picture<'a> {
+    pub fn lent<'a>(&'a mut self, settings: &'a Settings, strengths: &'a mut [u8], marks: &'a mut [u8]) -> Lent<'a> {
         let Picture { size, luma, u, v } = self;
-        let Settings { part, offsets, qps, t8s, .. } = settings;
-        deblock::Picture { size: *size, part: *part, offsets: *offsets, luma, u, v, strengths, qps, t8s, marks }
+        let Settings { part, offsets, slices, qps, t8s, .. } = settings;
+        let (table, numbers) = slices.as_ref().map_or((&[][..], &[][..]), |s| (&s.table[..], &s.numbers[..]));
+        let picture = deblock::Picture {
+            size: *size,
+            part: *part,
+            offsets: *offsets,
+            luma,
+            u,
+            v,
+            strengths,
+            qps,
+            t8s,
+            marks,
+            slices: table,
+            slice_numbers: numbers,
+        };
+        Lent { picture, has_slices: slices.is_some() }
     }
 
     /// Another sample in every place.

@@ -2,9 +2,10 @@
 
 use crate::part::FIELDS;
 use crate::picture::{Picture, Settings};
+use crate::slices::Slices;
 use crate::source::Source;
 use crate::trouble::Trouble;
-use deblock::{Grids, Offsets, Part, Size};
+use deblock::{Grids, Offsets, Part, Size, SliceRecord};
 
 pub const MAGIC: &[u8] = b"DBV1";
 
@@ -75,15 +76,18 @@ impl Recording {
     fn read_settings(&mut self, s: &mut Source, header: &Header, part: Part) -> Result<(), Trouble> {
         let Header { size, flags, chroma_u, chroma_v, .. } = *header;
         let n = size.macroblocks();
-        let offsets = Offsets { a: offset(s, "offset A")?, b: offset(s, "offset B")?, chroma_u, chroma_v };
+        let (a, b) = (picture_offset(s, flags, "offset A")?, picture_offset(s, flags, "offset B")?);
+        let offsets = Offsets { a, b, chroma_u, chroma_v };
+        let records = records(s, flags)?;
         let tables = tables(s, flags)?;
         let qps = s.checked(n, "the QPs", |b| b <= 51)?;
         let t8s = s.checked(if flags & T8 != 0 { n } else { 0 }, "the 8x8 flags", |b| b <= 1)?;
+        let slices = records.map(|table| slices(s, table, n)).transpose()?;
         if !header.no_grids() {
             self.grids.push(block_grids(s, 16 * n, flags, tables)?);
         }
         let strengths = s.checked(32 * n, "the strengths", |b| b <= 4)?;
-        self.settings.push(Settings { part, offsets, strengths, qps, t8s });
+        self.settings.push(Settings { part, offsets, slices, strengths, qps, t8s });
         Ok(())
     }
 
@@ -115,7 +119,6 @@ fn header(s: &mut Source) -> Result<Header, Trouble> {
     let header = Header { size, parts, flags, chroma_u, chroma_v };
     let beyond = [
         (depth != 8, 8, "10-bit samples"),
-        (flags & SLICES != 0, 10, "slices"),
         (header.no_grids() && flags & LIST_1 != 0, 10, "grids of list 1 but no others"),
         (header.no_grids() && flags & TABLES != 0, 10, "reference tables but no grids"),
     ];
@@ -130,9 +133,49 @@ fn offset(s: &mut Source, what: &str) -> Result<i32, Trouble> {
     Ok(i32::from(s.byte(what, |b| (-12..=12).contains(&(b as i8)))? as i8))
 }
 
+/// A or B of the picture. Slices have their own; a recording with slices has 0 here.
+fn picture_offset(s: &mut Source, flags: u8, what: &str) -> Result<i32, Trouble> {
+    let start = s.at();
+    match offset(s, what)? {
+        other if other != 0 && flags & SLICES != 0 => {
+            Err(s.trouble(start, format!("{what}: {other} beside slices, which have their own")))
+        }
+        offset => Ok(offset),
+    }
+}
+
 fn planes(s: &mut Source, header: &Header, what: &str) -> Result<Picture, Trouble> {
     let bytes = s.take(384 * header.size.macroblocks() * header.parts.len(), what)?;
     Ok(Picture::from_planes(header.size, &bytes))
+}
+
+/// The table of slices, where the recording has slices.
+fn records(s: &mut Source, flags: u8) -> Result<Option<Vec<SliceRecord>>, Trouble> {
+    if flags & SLICES == 0 {
+        return Ok(None);
+    }
+    let count = s.u16("the number of slices")?;
+    (0..count).map(|_| record(s)).collect::<Result<_, _>>().map(Some)
+}
+
+fn record(s: &mut Source) -> Result<SliceRecord, Trouble> {
+    let mode = s.byte("a slice's mode", |b| b <= 2)?;
+    let (a, b) = (offset(s, "a slice's offset A")? as i8, offset(s, "a slice's offset B")? as i8);
+    Ok(SliceRecord { mode, a, b })
+}
+
+/// The slice of each of n macroblocks, which the table must have.
+fn slices(s: &mut Source, table: Vec<SliceRecord>, n: usize) -> Result<Slices, Trouble> {
+    let start = s.at();
+    let bytes = s.take(2 * n, "the slice numbers")?;
+    let numbers: Vec<u16> = bytes.chunks_exact(2).map(|b| u16::from_le_bytes([b[0], b[1]])).collect();
+    match numbers.iter().position(|&number| usize::from(number) >= table.len()) {
+        None => Ok(Slices { table, numbers }),
+        Some(i) => {
+            let what = format!("the slice numbers: {} is outside a table of {}", numbers[i], table.len());
+            Err(s.trouble(start + 2 * i, what))
+        }
+    }
 }
 
 /// The pictures that the indices of each list name; without tables the references are numbers of pictures.

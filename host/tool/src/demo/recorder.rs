@@ -73,5 +73,5 @@ fn settings(coded: &[bool], intra: bool, offsets: Offsets) -> Settings {
         let answer = lent.derive(grids, place);
         assert_eq!(answer, Answer::Done, "the recorder's grids are in the domain");
     }
-    Settings { part: Part::Frame, offsets, strengths, qps: vec![QP; n], t8s: Vec::new() }
+    Settings { part: Part::Frame, offsets, slices: None, strengths, qps: vec![QP; n], t8s: Vec::new() }
 }

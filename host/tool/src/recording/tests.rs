@@ -132,10 +132,83 @@ fn list_1_has_a_table_of_its_own() {
     assert_eq!(lent_tables(&b), [(vec![1, 256, 65_535], vec![7, 9])]);
 }
 
+/// The same recording with slices, after the offsets of each picture, which are 0: in a frame and in the top
+/// field one of mode 2, in the bottom field one more before it, with A 12 and B -12. The macroblock is of the
+/// last.
+pub fn with_slices(mut recording: Vec<u8>, pictures: usize) -> Vec<u8> {
+    let (first, last) = ([0, 12, 0xF4], [2, 0xFF, 1]);
+    for picture in (0..pictures).rev() {
+        let offsets = 14 + 768 * pictures + 147 * picture;
+        recording.splice(offsets + 3..offsets + 3, [picture as u8, 0]); // after the QP
+        let records = [first, last][1 - picture..].concat();
+        recording.splice(offsets..offsets + 2, [&[0, 0, 1 + picture as u8, 0], &records[..]].concat());
+    }
+    changed(recording, 10, 4)
+}
+
+fn lent_slices(recording: &[u8]) -> Vec<(Vec<SliceRecord>, Vec<u16>)> {
+    let r = parse(recording).expect("a good file");
+    let own = Offsets { chroma_u: -1, chroma_v: -1, ..Offsets::default() };
+    assert!(r.settings.iter().all(|s| (s.offsets, s.qps[0]) == (own, 30)), "what stands beside the slices");
+    assert!(r.grids.iter().all(|g| (g.inter[15], g.mv0[31]) == (1, -255)), "what follows their numbers");
+    let slices = r.settings.into_iter().map(|s| s.slices.expect("slices"));
+    slices.map(|Slices { table, numbers }| (table, numbers)).collect()
+}
+
+#[test]
+fn slices_stand_between_the_offsets_and_the_qps_and_their_numbers_before_the_grids() {
+    let (first, last) = (SliceRecord { mode: 0, a: 12, b: -12 }, SliceRecord { mode: 2, a: -1, b: 1 });
+    assert_eq!(lent_slices(&with_slices(good(), 1)), [(vec![last], vec![0])]);
+    let both = [(vec![last], vec![0]), (vec![first, last], vec![1])];
+    assert_eq!(lent_slices(&with_slices(fields(), 2)), both);
+    assert!(parse(&good()).expect("a good file").settings[0].slices.is_none());
+}
+
+/// Records come before tables, 8x8 flags before numbers.
+#[test]
+fn slices_beside_tables_and_flags() {
+    let mut b = with_tables(with_slices(good(), 1), 1);
+    let offsets = 14 + 768;
+    let tables: Vec<u8> = b.splice(offsets + 2..offsets + 12, []).collect();
+    b.splice(offsets + 7..offsets + 7, tables);
+    b.insert(offsets + 18, 1); // the flag, after the QP
+    let r = parse(&changed(b, 10, 2 | 4 | 8)).expect("a good file");
+    let own = r.settings[0].slices.as_ref().expect("slices");
+    assert_eq!((own.table[0].mode, own.numbers[0], r.settings[0].t8s[0]), (2, 0, 1));
+    assert_eq!(r.grids[0].lent().pictures0, [1, 256, 65_535]);
+}
+
+/// A record and a number that are not legal, and A and B beside slices.
+#[test]
+fn damage_in_slices() {
+    let said = |at: usize, value: u8| parse(&changed(with_slices(good(), 1), at, value)).err().unwrap_or_default();
+    assert!(said(782, 2).ends_with("at byte 782: offset A: 2 beside slices, which have their own"));
+    assert!(said(783, 0xF4).ends_with("at byte 783: offset B: -12 beside slices, which have their own"));
+    assert!(said(786, 3).ends_with("at byte 786: a slice's mode: 3 is out of range"));
+    assert!(said(787, 13).ends_with("at byte 787: a slice's offset A: 13 is out of range"));
+    assert!(said(788, 0xF3).ends_with("at byte 788: a slice's offset B: 243 is out of range"));
+    assert!(said(790, 1).ends_with("at byte 790: the slice numbers: 1 is outside a table of 1"));
+    assert!(said(791, 1).ends_with("at byte 790: the slice numbers: 256 is outside a table of 1"));
+    let both = parse(&changed(with_slices(fields(), 2), 14 + 1536 + 154 + 4, 3)).err().unwrap_or_default();
+    assert!(both.ends_with("a slice's mode: 3 is out of range, in the bottom field"), "{both}");
+}
+
+/// Without records every number is outside.
+#[test]
+fn an_empty_table_is_a_table() {
+    let mut b = with_slices(good(), 1);
+    b[784] = 0;
+    b.drain(786..789);
+    let said = parse(&b).err().unwrap_or_default();
+    assert!(said.ends_with("at byte 787: the slice numbers: 0 is outside a table of 0"), "{said}");
+}
+
 #[test]
 fn every_cut_is_noticed() {
     let flag_16 = changed(two_offsets(good()), 10, 16);
-    for whole in [good(), fields(), flag_16, with_tables(good(), 1), with_tables(fields(), 2)] {
+    let tables = [with_tables(good(), 1), with_tables(fields(), 2)];
+    let slices = [with_slices(good(), 1), with_slices(fields(), 2)];
+    for whole in [good(), fields(), flag_16].into_iter().chain(tables).chain(slices) {
         for end in 0..whole.len() {
             let what = parse(&whole[..end]).err().unwrap_or_else(|| panic!("cut at {end} was taken"));
             assert!(what.starts_with("x.dbv: at byte "), "{what}");
@@ -169,7 +242,6 @@ fn damage_is_named_with_its_place() {
 #[test]
 fn what_the_tool_does_not_take_is_named() {
     assert!(damaged(8, 10).contains("at byte 8: the recording has 10-bit samples"));
-    assert!(damaged(10, 4).contains("at byte 10: the recording has slices"));
     assert!(damaged(10, 17).contains("at byte 10: the recording has grids of list 1 but no others"));
     assert!(damaged(10, 24).contains("at byte 10: the recording has reference tables but no grids"));
 }

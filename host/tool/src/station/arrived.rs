@@ -1,12 +1,14 @@
 //! What has arrived of a frame or of one field, and which of it was visited and painted.
 
 use crate::picture::{Picture, Settings};
+use crate::slices::Slices;
 use deblock::{Answer, Part, Place, Size};
 
 pub struct Arrived<'a> {
     size: Size,
     sent: &'a Settings,
-    /// QPs and flags of the macroblocks that have arrived, and 0 for the others; their strengths stand apart.
+    /// QPs, flags, slice numbers and records of the macroblocks that have arrived, and 0 for the others.
+    /// Strengths stand apart.
     lent: Settings,
     strengths: Vec<u8>,
     marks: Vec<u8>,
@@ -21,10 +23,12 @@ impl<'a> Arrived<'a> {
         let n = size.macroblocks();
         let none = |grid: &[u8]| vec![0; grid.len()];
         let Settings { part, offsets, .. } = *sent;
+        let slices = sent.slices.as_ref().map(Slices::nothing);
+        let (qps, t8s) = (none(&sent.qps), none(&sent.t8s));
         Arrived {
             size,
             sent,
-            lent: Settings { part, offsets, strengths: Vec::new(), qps: none(&sent.qps), t8s: none(&sent.t8s) },
+            lent: Settings { part, offsets, slices, strengths: Vec::new(), qps, t8s },
             strengths: none(&sent.strengths),
             marks: vec![0; n],
             stored: vec![false; n],
@@ -51,6 +55,9 @@ impl<'a> Arrived<'a> {
         self.lent.qps[m] = self.sent.qps[m];
         if let Some(flag) = self.lent.t8s.get_mut(m) {
             *flag = self.sent.t8s[m];
+        }
+        if let (Some(lent), Some(sent)) = (&mut self.lent.slices, &self.sent.slices) {
+            lent.take(sent, m);
         }
     }
 

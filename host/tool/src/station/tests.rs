@@ -5,6 +5,8 @@ use crate::orders::{named, random, raster};
 use crate::part::{lines, FIELDS};
 use deblock::{Part, Place, Size};
 
+mod slices;
+
 const FRAME: [Part; 1] = [Part::Frame];
 const SIZE: Size = Size { w: 5, h: 4 };
 
@@ -14,7 +16,8 @@ fn picture(parts: &[Part]) -> (Picture, Vec<Settings>) {
     let planes: Vec<u8> = (0..384 * n * parts.len()).map(|i| 100 + (i / 64 % 9) as u8).collect();
     let settings = parts.iter().map(|&part| {
         let qps = vec![38 - 2 * part as u8; n];
-        Settings { part, offsets: Default::default(), strengths: vec![3; 32 * n], qps, t8s: Vec::new() }
+        let (offsets, strengths) = (Default::default(), vec![3; 32 * n]);
+        Settings { part, offsets, slices: None, strengths, qps, t8s: Vec::new() }
     });
     (Picture::from_planes(SIZE, &planes), settings.collect())
 }
@@ -81,8 +84,8 @@ fn the_old_rule_has_its_fault() {
     let before = Picture { size, luma, u: vec![128; 256], v: vec![128; 256] };
     let outer = |i: usize| u8::from(i % 16 < 4 && (i / 32 % 2 == 1 || i % 32 > 15) && (i / 64 == 1 || i % 32 < 16));
     let strengths = (0..128).map(outer).collect();
-    let settings =
-        [Settings { part: Part::Frame, offsets: Default::default(), strengths, qps: vec![40; 4], t8s: Vec::new() }];
+    let (part, offsets, qps) = (Part::Frame, Default::default(), vec![40; 4]);
+    let settings = [Settings { part, offsets, slices: None, strengths, qps, t8s: Vec::new() }];
     let right = replay(&before, &settings, &columns(&FRAME, size), true).picture;
     assert_eq!((right.luma[495], old_rule(before, &settings[0]).luma[495]), (103, 102));
 }

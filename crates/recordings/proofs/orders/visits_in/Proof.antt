@@ -12,7 +12,7 @@ use Rattle.recordings.proofs.orders.visits_in.Statement.{statement}
 use Rattle.recordings.proofs.orders.visits_in.Tie as tie
 
 abbrev Inv : tie.InvT-loop
-Inv way h luma₀ u₀ v₀ s q t s2 q2 t2 marks₀ marks2₀ k₀ k-end luma u v marks marks2 k =
+Inv way h luma₀ u₀ v₀ rs ns s q t rs2 ns2 s2 q2 t2 marks₀ marks2₀ k₀ k-end luma u v marks marks2 k =
     (k ≤ k-end)
     × (k-end ≤ 14400)
     × (k-end ≡ turnsOf (h .n))
@@ -21,10 +21,10 @@ Inv way h luma₀ u₀ v₀ s q t s2 q2 t2 marks₀ marks2₀ k₀ k-end luma u 
     × (length v ≡ length v₀)
     × (length marks ≡ length marks₀)
     × (length marks2 ≡ length marks2₀)
-    × ((planes luma u v, marks, marks2) ≡ visitsTo k way (recording h s q t s2 q2 t2) (planes luma₀ u₀ v₀, marks₀, marks2₀))
+    × ((planes luma u v, marks, marks2) ≡ visitsTo k way (recording h rs ns s q t rs2 ns2 s2 q2 t2) (planes luma₀ u₀ v₀, marks₀, marks2₀))
 
 abbrev μ : tie.MeasureT-loop
-μ way h luma₀ u₀ v₀ s q t s2 q2 t2 marks₀ marks2₀ k₀ k-end luma u v marks marks2 k = k-end - k
+μ way h luma₀ u₀ v₀ rs ns s q t rs2 ns2 s2 q2 t2 marks₀ marks2₀ k₀ k-end luma u v marks marks2 k = k-end - k
 
 loop-holds : tie.Need-loop-holds Inv μ
 loop-holds c = (omega arith, c .turns .ensures .0, c .turns .ensures .1, refl, refl, refl, refl, refl, upTo-none _ _)

@@ -16,8 +16,8 @@ use Rattle.slices.specs.declared.Survey.{Survey}
 use Rattle.pictures.specs.Checks.{lentSlices}
 use Rattle.pictures.specs.Rows.{WholeOutcome}
 use Rattle.visits.specs.Visit.{At, State}
-use Rattle.sliced.specs.Inner.{rowChecksBy, taskOf, StretchReady, StretchFiltered, VisitedBy}
-use Rattle.sliced.specs.declared.rows.Task.{Task}
+use Rattle.sliced.specs.Inner.{rowChecksBy, rowsTask, StretchReady, StretchFiltered, VisitedBy}
+use Rattle.sliced.specs.declared.tasks.Task.{Task}
 use Rattle.sliced.proofs.FilterRowsSlicesLaws.{filter-rows-slices-Inv, filter-rows-slices-begins, filter-rows-slices-filter-stretch-ready, filter-rows-slices-turns, filter-rows-slices-ends}
 
 -- ---- the loop of `whole_sliced`: the laws are those of the call that holds a table
@@ -26,14 +26,14 @@ module _ (size : Size) (part : Part) (c : ChromaOffsets) (table : List SliceReco
     pub survey : Survey
     pub survey-is : survey ≡ surveyOf table
     pub task : Task
-    pub task-is : task ≡ taskOf (refusal (rowChecksBy survey part size 0 (size .h) c (length luma) (length u) (length v) ns ss qs ts)) (size .w) 0 (size .h)
+    pub task-is : task ≡ rowsTask (refusal (rowChecksBy survey part size 0 (size .h) c (length luma) (length u) (length v) ns ss qs ts)) (size .w) 0 (size .h)
     pub n-is : n ≡ task .answer
     pub i-is : i ≡ task .from
     pub e-is : e ≡ task .to
     pub inv : filter-rows-slices-Inv size part 0 (size .h) c table ns luma u v ss qs ts survey survey-is task task-is n n-is i i-is e e-is i1 luma1 u1 v1
 
   pub begins : (survey : Survey) (task : Task) → survey ≡ surveyOf table
-      → task ≡ taskOf (refusal (rowChecksBy survey part size 0 (size .h) c (length luma) (length u) (length v) ns ss qs ts)) (size .w) 0 (size .h)
+      → task ≡ rowsTask (refusal (rowChecksBy survey part size 0 (size .h) c (length luma) (length u) (length v) ns ss qs ts)) (size .w) 0 (size .h)
       → n ≡ task .answer → i ≡ task .from → e ≡ task .to → Turned i luma u v
   begins survey task survey-is task-is n-is i-is e-is = record {
     survey = survey;

@@ -14,11 +14,11 @@ use sizes::Part;
 use sizes::Size;
 use sliced::entries::number_at;
 use sliced::entries::own_number;
-use sliced::rows::answer_of;
 use sliced::rows::filter_stretch;
-use sliced::rows::from_of;
 use sliced::rows::plan_rows;
-use sliced::rows::to_of;
+use sliced::tasks::answer_of;
+use sliced::tasks::from_of;
+use sliced::tasks::to_of;
 use sliced::visiting::visit_by;
 use slices::ChromaOffsets;
 

@@ -30,8 +30,8 @@ use Rattle.slices.specs.declared.Survey.{Survey}
 use Rattle.pictures.specs.Checks.{Lent, lentSlices, heldOf}
 use Rattle.pictures.specs.Rows.{rowAnswer, RowOutcome}
 use Rattle.pictures.proofs.RowCalls.{RowsFit, answered-lengths, refused-rows, done-rows, room, ends}
-use Rattle.sliced.specs.Inner.{rowChecksBy, taskOf, StretchReady, StretchFiltered}
-use Rattle.sliced.specs.declared.rows.Task.{Task}
+use Rattle.sliced.specs.Inner.{rowChecksBy, rowsTask, StretchReady, StretchFiltered}
+use Rattle.sliced.specs.declared.tasks.Task.{Task}
 use Rattle.sliced.proofs.RowsBy.{by-rows-small, by-rows-fit, by-rows-as-many}
 
 -- a task with something to do is no refusal
@@ -43,7 +43,7 @@ some-task m x i h = go (ℕ-discrete m 0)
     go (no n) = let k : i < 0 = subst (λ (b : Bool). i < cond b x 0) (ne-eqb m 0 n) h in omega arith
 
 module _ (size : Size) (part : Part) (a b : ℕ) (c : ChromaOffsets) (table : List SliceRecord) (numbers luma u v strengths qps t8s : List ℕ) (s : Survey) (s-is : s ≡ surveyOf table) (task : Task)
-    (task-is : task ≡ taskOf (refusal (rowChecksBy s part size a b c (length luma) (length u) (length v) numbers strengths qps t8s)) (size .w) a b) (n : ℕ) (n-is : n ≡ task .answer) (i : ℕ) (i-is : i ≡ task .from) (e : ℕ) (e-is : e ≡ task .to) where
+    (task-is : task ≡ rowsTask (refusal (rowChecksBy s part size a b c (length luma) (length u) (length v) numbers strengths qps t8s)) (size .w) a b) (n : ℕ) (n-is : n ≡ task .answer) (i : ℕ) (i-is : i ≡ task .from) (e : ℕ) (e-is : e ≡ task .to) where
   abbrev d : Lent
   d = lentSlices size c table numbers strengths qps t8s
 

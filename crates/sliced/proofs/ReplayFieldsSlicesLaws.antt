@@ -20,7 +20,7 @@ use Rattle.interlaced.specs.Promise.{arrivals, FieldsOutcome}
 use Rattle.interlaced.proofs.Calls.{arrivals-length, served-arrival}
 use Rattle.sliced.specs.Arriving.{untabled, ArrivalMade, unevenFour, arrivalsTask}
 use Rattle.sliced.specs.Inner.{ownNumber}
-use Rattle.sliced.specs.declared.rows.Task.{Task}
+use Rattle.sliced.specs.declared.tasks.Task.{Task}
 use Rattle.sliced.proofs.Replays.{Replaying, replay-begins, turn-even, turn-as-many, replay-goes-on, replay-comes-to}
 
 module _ (size : Size) (ps xs ys luma u v : List ℕ) (c : ChromaOffsets) (table : List SliceRecord) (ns ss qs ts ms : List ℕ) (c2 : ChromaOffsets) (table2 : List SliceRecord) (ns2 ss2 qs2 ts2 ms2 answers : List ℕ)

@@ -21,7 +21,7 @@ use Rattle.visits.specs.Promise.{visitIn, requests, ReplayOutcome}
 use Rattle.visits.specs.Visit.{State}
 use Rattle.visits.proofs.Calls.{requests-length, served-turn}
 use Rattle.sliced.specs.Inner.{ownNumber, unevenBy, replayTask, TurnMade}
-use Rattle.sliced.specs.declared.rows.Task.{Task}
+use Rattle.sliced.specs.declared.tasks.Task.{Task}
 use Rattle.sliced.proofs.Replays.{Replaying, replay-begins, turn-even, turn-as-many, replay-goes-on, replay-comes-to}
 
 module _ (size : Size) (part : Part) (c : ChromaOffsets) (table : List SliceRecord) (xs ys numbers luma u v strengths qps t8s marks answers : List ℕ) (s : Survey) (s-is : s ≡ surveyOf table) (task : Task)

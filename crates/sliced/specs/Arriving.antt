@@ -16,7 +16,7 @@ use Rattle.visits.specs.Visit.{At}
 use Rattle.interlaced.specs.Both.{Arrival, OfField, ofFieldSlices, Both}
 use Rattle.interlaced.specs.Inner.{OneVisit}
 use Rattle.sliced.specs.Inner.{ownNumber, turnsTask}
-use Rattle.sliced.specs.declared.rows.Task.{Task}
+use Rattle.sliced.specs.declared.tasks.Task.{Task}
 
 -- what is lent for a field, but for its table
 pub record Untabled : Type 0 where

@@ -27,7 +27,7 @@ use Rattle.visits.specs.Checks.{visitReads}
 use Rattle.visits.specs.Inner.{sharedVisitChecks}
 use Rattle.visits.specs.Promise.{VisitOutcome}
 use Rattle.visits.specs.Visit.{At, State}
-use Rattle.sliced.specs.declared.rows.Task.{Task}
+use Rattle.sliced.specs.declared.tasks.Task.{Task}
 
 -- ---- checks. 20 and 21: `past` says whether a number that is read is outside the table
 abbrev pub numberChecks : Survey → Bool → List (ℕ × Bool)
@@ -54,8 +54,8 @@ visitChecksBy s part size r c luma u v ns strengths qps t8s ms =
     ++ surveyChecks s (visitReads (size .w) strengths t8s ms r .near) ns
 
 -- ---- rows: what is to be done, macroblocks a * w to b * w, or nothing
-abbrev pub taskOf : ℕ → ℕ → ℕ → ℕ → Task
-taskOf n w a b = record { answer = n; from = cond (eqb n 0) (a * w) 0; to = cond (eqb n 0) (b * w) 0 }
+abbrev pub rowsTask : ℕ → ℕ → ℕ → ℕ → Task
+rowsTask n w a b = record { answer = n; from = cond (eqb n 0) (a * w) 0; to = cond (eqb n 0) (b * w) 0 }
 
 -- numbers i to r are of one slice
 pub record StretchEnd (ns : List ℕ) (i e r : ℕ) : Type 0 where

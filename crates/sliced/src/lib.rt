@@ -6,4 +6,5 @@ pub mod calls;
 pub mod entries;
 pub mod replaying;
 pub mod rows;
+pub mod tasks;
 pub mod visiting;

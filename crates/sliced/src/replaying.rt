@@ -3,33 +3,16 @@ ghost use mathlib.Core.Path.{_≡_};
 ghost use Prim.Native.Nat.{_<_};
 ghost use lib.ListN.{length, getD};
 ghost use Rattle.edges.specs.Picture.{planes};
-ghost use Rattle.sliced.specs.Inner.{ownNumber, turnsTask, replayTask, TurnMade};
+ghost use Rattle.sliced.specs.Inner.{ownNumber, replayTask, TurnMade};
 use crate::entries::own_number;
-use crate::rows::Task;
+use crate::tasks::Task;
+use crate::tasks::turns;
 use crate::visiting::visit_by;
 use sizes::Part;
 use sizes::Size;
 use slices::ChromaOffsets;
 use slices::SliceRecord;
 use slices::Survey;
-
-// A turn for each of n requests, or none and a refusal where lists are of different lengths.
-pub fn turns(uneven: bool, n: usize) -> Task
-    ensures { λ r. ⌜ r ≡ turnsTask uneven n ⌝ }
-{
-    if uneven {
-        return Task {
-            answer: 4,
-            from: 0,
-            to: 0,
-        };
-    }
-    Task {
-        answer: 0,
-        from: 0,
-        to: n,
-    }
-}
 
 // What a replay is to do, by the lengths of the requests and of the room for their answers.
 pub fn replay_task(xs: usize, ys: usize, answers: usize) -> Task

@@ -15,12 +15,14 @@ ghost use Rattle.pictures.specs.Checks.{someBad};
 ghost use Rattle.pictures.specs.Rows.{qpsFrom};
 ghost use Rattle.sizes.specs.Sizes.{badParity, frameOfPart};
 ghost use Rattle.slices.specs.Inner.{edgesBy};
-ghost use Rattle.sliced.specs.Inner.{surveyChecks, rowChecksBy, taskOf, StretchReady, StretchFiltered};
+ghost use Rattle.sliced.specs.Inner.{surveyChecks, rowChecksBy, rowsTask, StretchReady, StretchFiltered};
 use crate::entries::any_past;
 use crate::entries::bad_count;
 use crate::entries::bad_range;
 use crate::entries::refuse_numbers;
 use crate::entries::stretch_end;
+use crate::tasks::Task;
+use crate::tasks::rows_task;
 use edges::Offsets;
 use edges::picture::macroblock;
 use lines::tables::all;
@@ -33,13 +35,6 @@ use slices::SliceRecord;
 use slices::Survey;
 use slices::rules::edges_by;
 use slices::rules::offsets_with;
-
-// What a row call is to do: filter the macroblocks `from` to `to`, of which `to` is not one, and answer.
-pub struct Task {
-    pub answer: u32,
-    pub from: usize,
-    pub to: usize,
-}
 
 // Checks 20 and 21, of rows a to b.
 fn refuse_row_numbers(s: Survey, w: usize, a: usize, b: usize, numbers: &[u16]) -> u32
@@ -89,25 +84,6 @@ fn refuse_sliced_rows(
     refuse_row_numbers(s, size.w, a, b, numbers)
 }
 
-// Rows a to b as a task: after a refusal nothing.
-fn task_of(n: u32, w: usize, a: usize, b: usize) -> Task
-    requires { ⌜ (n ≡ 0 → (a * w ≤ 36864) × (b * w ≤ 36864)) ⌝ }
-    ensures { λ r. ⌜ r ≡ taskOf n w a b ⌝ }
-{
-    if n != 0 {
-        return Task {
-            answer: n,
-            from: 0,
-            to: 0,
-        };
-    }
-    Task {
-        answer: 0,
-        from: a * w,
-        to: b * w,
-    }
-}
-
 // What the call on rows a to b is to do.
 pub fn plan_rows(
     s: Survey,
@@ -124,7 +100,7 @@ pub fn plan_rows(
     qps: &[u8],
     t8s: &[u8],
 ) -> Task
-    ensures { λ r. ⌜ r ≡ taskOf (refusal (rowChecksBy s part size a b c luma u v (now (numbers .entry)) (now (strengths .entry)) (now (qps .entry)) (now (t8s .entry)))) (size .w) a b ⌝ }
+    ensures { λ r. ⌜ r ≡ rowsTask (refusal (rowChecksBy s part size a b c luma u v (now (numbers .entry)) (now (strengths .entry)) (now (qps .entry)) (now (t8s .entry)))) (size .w) a b ⌝ }
 {
     let n = refuse_sliced_rows(
         s,
@@ -141,7 +117,7 @@ pub fn plan_rows(
         qps,
         t8s,
     );
-    task_of(n, size.w, a, b)
+    rows_task(n, size.w, a, b)
 }
 
 // How many rows a picture has.
@@ -149,25 +125,6 @@ pub fn height_of(size: Size) -> usize
     ensures { λ r. ⌜ r ≡ size .h ⌝ }
 {
     size.h
-}
-
-// The members of a task.
-pub fn answer_of(task: Task) -> u32
-    ensures { λ r. ⌜ r ≡ task .answer ⌝ }
-{
-    task.answer
-}
-
-pub fn from_of(task: Task) -> usize
-    ensures { λ r. ⌜ r ≡ task .from ⌝ }
-{
-    task.from
-}
-
-pub fn to_of(task: Task) -> usize
-    ensures { λ r. ⌜ r ≡ task .to ⌝ }
-{
-    task.to
 }
 
 // Macroblocks x0 to x1 of a row, all of the slice whose record is r.

@@ -58,7 +58,7 @@ use Rattle.pictures.specs.Checks.{lentSlices}
 use Rattle.pictures.specs.Rows.{RowOutcome}
 use Rattle.slices.specs.Inner.{surveyOf}
 use Rattle.laws.specs.Refusal.{refusal}
-use Rattle.sliced.specs.Inner.{rowChecksBy, taskOf, StretchReady, StretchFiltered}
+use Rattle.sliced.specs.Inner.{rowChecksBy, rowsTask, StretchReady, StretchFiltered}
 use Rattle.slices.specs.Table.{recordOf}
 use denote.Struct.Laws as LL
 use denote.Enum.Laws as EL
@@ -74,9 +74,9 @@ use Rattle.slices.proofs.ChromaOffsets.Laws as S2′
 use Rattle.slices.specs.declared.SliceRecord.{SliceRecord}
 use Rattle.slices.proofs.SliceRecord as S3
 use Rattle.slices.proofs.SliceRecord.Laws as S3′
-use Rattle.sliced.specs.declared.rows.Task.{Task}
-use Rattle.sliced.proofs.rows.Task as S4
-use Rattle.sliced.proofs.rows.Task.Laws as S4′
+use Rattle.sliced.specs.declared.tasks.Task.{Task}
+use Rattle.sliced.proofs.tasks.Task as S4
+use Rattle.sliced.proofs.tasks.Task.Laws as S4′
 use Rattle.slices.specs.declared.Survey.{Survey}
 use Rattle.slices.proofs.Survey as S5
 use Rattle.slices.proofs.Survey.Laws as S5′
@@ -88,18 +88,18 @@ use Rattle.sliced.proofs.rows.plan_rows as f-plan-rows
 use Rattle.sliced.proofs.rows.plan_rows.Symbol as f-plan-rows-def
 use Rattle.sliced.proofs.rows.plan_rows.Symbol.{name as #plan-rows}
 use Rattle.sliced.proofs.rows.plan_rows.Met as f-plan-rows-thm
-use Rattle.sliced.proofs.rows.answer_of as f-answer-of
-use Rattle.sliced.proofs.rows.answer_of.Symbol as f-answer-of-def
-use Rattle.sliced.proofs.rows.answer_of.Symbol.{name as #answer-of}
-use Rattle.sliced.proofs.rows.answer_of.Met as f-answer-of-thm
-use Rattle.sliced.proofs.rows.from_of as f-from-of
-use Rattle.sliced.proofs.rows.from_of.Symbol as f-from-of-def
-use Rattle.sliced.proofs.rows.from_of.Symbol.{name as #from-of}
-use Rattle.sliced.proofs.rows.from_of.Met as f-from-of-thm
-use Rattle.sliced.proofs.rows.to_of as f-to-of
-use Rattle.sliced.proofs.rows.to_of.Symbol as f-to-of-def
-use Rattle.sliced.proofs.rows.to_of.Symbol.{name as #to-of}
-use Rattle.sliced.proofs.rows.to_of.Met as f-to-of-thm
+use Rattle.sliced.proofs.tasks.answer_of as f-answer-of
+use Rattle.sliced.proofs.tasks.answer_of.Symbol as f-answer-of-def
+use Rattle.sliced.proofs.tasks.answer_of.Symbol.{name as #answer-of}
+use Rattle.sliced.proofs.tasks.answer_of.Met as f-answer-of-thm
+use Rattle.sliced.proofs.tasks.from_of as f-from-of
+use Rattle.sliced.proofs.tasks.from_of.Symbol as f-from-of-def
+use Rattle.sliced.proofs.tasks.from_of.Symbol.{name as #from-of}
+use Rattle.sliced.proofs.tasks.from_of.Met as f-from-of-thm
+use Rattle.sliced.proofs.tasks.to_of as f-to-of
+use Rattle.sliced.proofs.tasks.to_of.Symbol as f-to-of-def
+use Rattle.sliced.proofs.tasks.to_of.Symbol.{name as #to-of}
+use Rattle.sliced.proofs.tasks.to_of.Met as f-to-of-thm
 use Rattle.sliced.proofs.entries.number_at as f-number-at
 use Rattle.sliced.proofs.entries.number_at.Symbol as f-number-at-def
 use Rattle.sliced.proofs.entries.number_at.Symbol.{name as #number-at}
@@ -126,7 +126,7 @@ abbrev Said-survey-of : List SliceRecord → Survey → Type 0
 Said-survey-of table r = r ≡ surveyOf (table)
 
 abbrev Said-plan-rows : Survey → Part → Size → ℕ → ℕ → ChromaOffsets → ℕ → ℕ → ℕ → List ℕ → List ℕ → List ℕ → List ℕ → Task → Type 0
-Said-plan-rows s part size a b c luma u v numbers strengths qps t8s r = r ≡ taskOf (refusal (rowChecksBy s part size a b c luma u v (numbers) (strengths) (qps) (t8s))) (size .w) a b
+Said-plan-rows s part size a b c luma u v numbers strengths qps t8s r = r ≡ rowsTask (refusal (rowChecksBy s part size a b c luma u v (numbers) (strengths) (qps) (t8s))) (size .w) a b
 
 abbrev Said-answer-of : Task → ℕ → Type 0
 Said-answer-of task r = r ≡ task .answer
@@ -622,9 +622,9 @@ filter-rows-slices-spec 𝓤 H 𝓜 𝓖 𝓡 =
     (filter-rows-slices-meets 𝓤 H (𝓖 .A) (givenOf 𝓤 H 𝓜 𝓖) (𝓜 .mem) (𝓡 .run) (tablesOf 𝓤 H 𝓜 (tables 𝓤 H 𝓜 𝓡 code.env))
     (cited 𝓤 H (Ct-survey-of 𝓤 H (𝓖 .A) (𝓜 .mem) (𝓡 .run)) 𝓜 𝓡 code.env #survey-of f-survey-of-def.routine code.calls-slices·table·survey-of (f-survey-of-thm.met 𝓤 H 𝓜 𝓖 𝓡))
     (cited 𝓤 H (Ct-plan-rows 𝓤 H (𝓖 .A) (𝓜 .mem) (𝓡 .run)) 𝓜 𝓡 code.env #plan-rows f-plan-rows-def.routine code.calls-sliced·rows·plan-rows (f-plan-rows-thm.met 𝓤 H 𝓜 𝓖 𝓡))
-    (cited 𝓤 H (Ct-answer-of 𝓤 H (𝓖 .A) (𝓜 .mem) (𝓡 .run)) 𝓜 𝓡 code.env #answer-of f-answer-of-def.routine code.calls-sliced·rows·answer-of (f-answer-of-thm.met 𝓤 H 𝓜 𝓖 𝓡))
-    (cited 𝓤 H (Ct-from-of 𝓤 H (𝓖 .A) (𝓜 .mem) (𝓡 .run)) 𝓜 𝓡 code.env #from-of f-from-of-def.routine code.calls-sliced·rows·from-of (f-from-of-thm.met 𝓤 H 𝓜 𝓖 𝓡))
-    (cited 𝓤 H (Ct-to-of 𝓤 H (𝓖 .A) (𝓜 .mem) (𝓡 .run)) 𝓜 𝓡 code.env #to-of f-to-of-def.routine code.calls-sliced·rows·to-of (f-to-of-thm.met 𝓤 H 𝓜 𝓖 𝓡))
+    (cited 𝓤 H (Ct-answer-of 𝓤 H (𝓖 .A) (𝓜 .mem) (𝓡 .run)) 𝓜 𝓡 code.env #answer-of f-answer-of-def.routine code.calls-sliced·tasks·answer-of (f-answer-of-thm.met 𝓤 H 𝓜 𝓖 𝓡))
+    (cited 𝓤 H (Ct-from-of 𝓤 H (𝓖 .A) (𝓜 .mem) (𝓡 .run)) 𝓜 𝓡 code.env #from-of f-from-of-def.routine code.calls-sliced·tasks·from-of (f-from-of-thm.met 𝓤 H 𝓜 𝓖 𝓡))
+    (cited 𝓤 H (Ct-to-of 𝓤 H (𝓖 .A) (𝓜 .mem) (𝓡 .run)) 𝓜 𝓡 code.env #to-of f-to-of-def.routine code.calls-sliced·tasks·to-of (f-to-of-thm.met 𝓤 H 𝓜 𝓖 𝓡))
     (cited 𝓤 H (Ct-number-at 𝓤 H (𝓖 .A) (𝓜 .mem) (𝓡 .run)) 𝓜 𝓡 code.env #number-at f-number-at-def.routine code.calls-sliced·entries·number-at (f-number-at-thm.met 𝓤 H 𝓜 𝓖 𝓡))
     (cited 𝓤 H (Ct-record-of 𝓤 H (𝓖 .A) (𝓜 .mem) (𝓡 .run)) 𝓜 𝓡 code.env #record-of f-record-of-def.routine code.calls-slices·table·record-of (f-record-of-thm.met 𝓤 H 𝓜 𝓖 𝓡))
     (cited 𝓤 H (Ct-filter-stretch 𝓤 H (𝓖 .A) (𝓜 .mem) (𝓡 .run)) 𝓜 𝓡 code.env #filter-stretch f-filter-stretch-def.routine code.calls-sliced·rows·filter-stretch (f-filter-stretch-thm.met 𝓤 H 𝓜 𝓖 𝓡)))

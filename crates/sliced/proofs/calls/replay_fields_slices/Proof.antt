@@ -72,9 +72,9 @@ use Rattle.slices.proofs.ChromaOffsets.Laws as S1′
 use Rattle.slices.specs.declared.SliceRecord.{SliceRecord}
 use Rattle.slices.proofs.SliceRecord as S2
 use Rattle.slices.proofs.SliceRecord.Laws as S2′
-use Rattle.sliced.specs.declared.rows.Task.{Task}
-use Rattle.sliced.proofs.rows.Task as S3
-use Rattle.sliced.proofs.rows.Task.Laws as S3′
+use Rattle.sliced.specs.declared.tasks.Task.{Task}
+use Rattle.sliced.proofs.tasks.Task as S3
+use Rattle.sliced.proofs.tasks.Task.Laws as S3′
 use Rattle.slices.specs.declared.Survey.{Survey}
 use Rattle.slices.proofs.Survey as S4
 use Rattle.slices.proofs.Survey.Laws as S4′
@@ -86,14 +86,14 @@ use Rattle.sliced.proofs.arriving.arrivals_task as f-arrivals-task
 use Rattle.sliced.proofs.arriving.arrivals_task.Symbol as f-arrivals-task-def
 use Rattle.sliced.proofs.arriving.arrivals_task.Symbol.{name as #arrivals-task}
 use Rattle.sliced.proofs.arriving.arrivals_task.Met as f-arrivals-task-thm
-use Rattle.sliced.proofs.rows.answer_of as f-answer-of
-use Rattle.sliced.proofs.rows.answer_of.Symbol as f-answer-of-def
-use Rattle.sliced.proofs.rows.answer_of.Symbol.{name as #answer-of}
-use Rattle.sliced.proofs.rows.answer_of.Met as f-answer-of-thm
-use Rattle.sliced.proofs.rows.to_of as f-to-of
-use Rattle.sliced.proofs.rows.to_of.Symbol as f-to-of-def
-use Rattle.sliced.proofs.rows.to_of.Symbol.{name as #to-of}
-use Rattle.sliced.proofs.rows.to_of.Met as f-to-of-thm
+use Rattle.sliced.proofs.tasks.answer_of as f-answer-of
+use Rattle.sliced.proofs.tasks.answer_of.Symbol as f-answer-of-def
+use Rattle.sliced.proofs.tasks.answer_of.Symbol.{name as #answer-of}
+use Rattle.sliced.proofs.tasks.answer_of.Met as f-answer-of-thm
+use Rattle.sliced.proofs.tasks.to_of as f-to-of
+use Rattle.sliced.proofs.tasks.to_of.Symbol as f-to-of-def
+use Rattle.sliced.proofs.tasks.to_of.Symbol.{name as #to-of}
+use Rattle.sliced.proofs.tasks.to_of.Met as f-to-of-thm
 use Rattle.sliced.proofs.replaying.turn_number as f-turn-number
 use Rattle.sliced.proofs.replaying.turn_number.Symbol as f-turn-number-def
 use Rattle.sliced.proofs.replaying.turn_number.Symbol.{name as #turn-number}
@@ -831,8 +831,8 @@ replay-fields-slices-spec 𝓤 H 𝓜 𝓖 𝓡 =
     (replay-fields-slices-meets 𝓤 H (𝓖 .A) (givenOf 𝓤 H 𝓜 𝓖) (𝓜 .mem) (𝓡 .run) (tablesOf 𝓤 H 𝓜 (tables 𝓤 H 𝓜 𝓡 code.env))
     (cited 𝓤 H (Ct-survey-of 𝓤 H (𝓖 .A) (𝓜 .mem) (𝓡 .run)) 𝓜 𝓡 code.env #survey-of f-survey-of-def.routine code.calls-slices·table·survey-of (f-survey-of-thm.met 𝓤 H 𝓜 𝓖 𝓡))
     (cited 𝓤 H (Ct-arrivals-task 𝓤 H (𝓖 .A) (𝓜 .mem) (𝓡 .run)) 𝓜 𝓡 code.env #arrivals-task f-arrivals-task-def.routine code.calls-sliced·arriving·arrivals-task (f-arrivals-task-thm.met 𝓤 H 𝓜 𝓖 𝓡))
-    (cited 𝓤 H (Ct-answer-of 𝓤 H (𝓖 .A) (𝓜 .mem) (𝓡 .run)) 𝓜 𝓡 code.env #answer-of f-answer-of-def.routine code.calls-sliced·rows·answer-of (f-answer-of-thm.met 𝓤 H 𝓜 𝓖 𝓡))
-    (cited 𝓤 H (Ct-to-of 𝓤 H (𝓖 .A) (𝓜 .mem) (𝓡 .run)) 𝓜 𝓡 code.env #to-of f-to-of-def.routine code.calls-sliced·rows·to-of (f-to-of-thm.met 𝓤 H 𝓜 𝓖 𝓡))
+    (cited 𝓤 H (Ct-answer-of 𝓤 H (𝓖 .A) (𝓜 .mem) (𝓡 .run)) 𝓜 𝓡 code.env #answer-of f-answer-of-def.routine code.calls-sliced·tasks·answer-of (f-answer-of-thm.met 𝓤 H 𝓜 𝓖 𝓡))
+    (cited 𝓤 H (Ct-to-of 𝓤 H (𝓖 .A) (𝓜 .mem) (𝓡 .run)) 𝓜 𝓡 code.env #to-of f-to-of-def.routine code.calls-sliced·tasks·to-of (f-to-of-thm.met 𝓤 H 𝓜 𝓖 𝓡))
     (cited 𝓤 H (Ct-turn-number 𝓤 H (𝓖 .A) (𝓜 .mem) (𝓡 .run)) 𝓜 𝓡 code.env #turn-number f-turn-number-def.routine code.calls-sliced·replaying·turn-number (f-turn-number-thm.met 𝓤 H 𝓜 𝓖 𝓡))
     (cited 𝓤 H (Ct-record-of 𝓤 H (𝓖 .A) (𝓜 .mem) (𝓡 .run)) 𝓜 𝓡 code.env #record-of f-record-of-def.routine code.calls-slices·table·record-of (f-record-of-thm.met 𝓤 H 𝓜 𝓖 𝓡))
     (cited 𝓤 H (Ct-arrival 𝓤 H (𝓖 .A) (𝓜 .mem) (𝓡 .run)) 𝓜 𝓡 code.env #arrival f-arrival-def.routine code.calls-sliced·arriving·arrival (f-arrival-thm.met 𝓤 H 𝓜 𝓖 𝓡)))

@@ -73,9 +73,9 @@ use Rattle.slices.proofs.ChromaOffsets.Laws as S2′
 use Rattle.slices.specs.declared.SliceRecord.{SliceRecord}
 use Rattle.slices.proofs.SliceRecord as S3
 use Rattle.slices.proofs.SliceRecord.Laws as S3′
-use Rattle.sliced.specs.declared.rows.Task.{Task}
-use Rattle.sliced.proofs.rows.Task as S4
-use Rattle.sliced.proofs.rows.Task.Laws as S4′
+use Rattle.sliced.specs.declared.tasks.Task.{Task}
+use Rattle.sliced.proofs.tasks.Task as S4
+use Rattle.sliced.proofs.tasks.Task.Laws as S4′
 use Rattle.slices.specs.declared.Survey.{Survey}
 use Rattle.slices.proofs.Survey as S5
 use Rattle.slices.proofs.Survey.Laws as S5′
@@ -87,14 +87,14 @@ use Rattle.sliced.proofs.replaying.replay_task as f-replay-task
 use Rattle.sliced.proofs.replaying.replay_task.Symbol as f-replay-task-def
 use Rattle.sliced.proofs.replaying.replay_task.Symbol.{name as #replay-task}
 use Rattle.sliced.proofs.replaying.replay_task.Met as f-replay-task-thm
-use Rattle.sliced.proofs.rows.answer_of as f-answer-of
-use Rattle.sliced.proofs.rows.answer_of.Symbol as f-answer-of-def
-use Rattle.sliced.proofs.rows.answer_of.Symbol.{name as #answer-of}
-use Rattle.sliced.proofs.rows.answer_of.Met as f-answer-of-thm
-use Rattle.sliced.proofs.rows.to_of as f-to-of
-use Rattle.sliced.proofs.rows.to_of.Symbol as f-to-of-def
-use Rattle.sliced.proofs.rows.to_of.Symbol.{name as #to-of}
-use Rattle.sliced.proofs.rows.to_of.Met as f-to-of-thm
+use Rattle.sliced.proofs.tasks.answer_of as f-answer-of
+use Rattle.sliced.proofs.tasks.answer_of.Symbol as f-answer-of-def
+use Rattle.sliced.proofs.tasks.answer_of.Symbol.{name as #answer-of}
+use Rattle.sliced.proofs.tasks.answer_of.Met as f-answer-of-thm
+use Rattle.sliced.proofs.tasks.to_of as f-to-of
+use Rattle.sliced.proofs.tasks.to_of.Symbol as f-to-of-def
+use Rattle.sliced.proofs.tasks.to_of.Symbol.{name as #to-of}
+use Rattle.sliced.proofs.tasks.to_of.Met as f-to-of-thm
 use Rattle.sliced.proofs.replaying.turn_number as f-turn-number
 use Rattle.sliced.proofs.replaying.turn_number.Symbol as f-turn-number-def
 use Rattle.sliced.proofs.replaying.turn_number.Symbol.{name as #turn-number}
@@ -650,8 +650,8 @@ replay-slices-spec 𝓤 H 𝓜 𝓖 𝓡 =
     (replay-slices-meets 𝓤 H (𝓖 .A) (givenOf 𝓤 H 𝓜 𝓖) (𝓜 .mem) (𝓡 .run) (tablesOf 𝓤 H 𝓜 (tables 𝓤 H 𝓜 𝓡 code.env))
     (cited 𝓤 H (Ct-survey-of 𝓤 H (𝓖 .A) (𝓜 .mem) (𝓡 .run)) 𝓜 𝓡 code.env #survey-of f-survey-of-def.routine code.calls-slices·table·survey-of (f-survey-of-thm.met 𝓤 H 𝓜 𝓖 𝓡))
     (cited 𝓤 H (Ct-replay-task 𝓤 H (𝓖 .A) (𝓜 .mem) (𝓡 .run)) 𝓜 𝓡 code.env #replay-task f-replay-task-def.routine code.calls-sliced·replaying·replay-task (f-replay-task-thm.met 𝓤 H 𝓜 𝓖 𝓡))
-    (cited 𝓤 H (Ct-answer-of 𝓤 H (𝓖 .A) (𝓜 .mem) (𝓡 .run)) 𝓜 𝓡 code.env #answer-of f-answer-of-def.routine code.calls-sliced·rows·answer-of (f-answer-of-thm.met 𝓤 H 𝓜 𝓖 𝓡))
-    (cited 𝓤 H (Ct-to-of 𝓤 H (𝓖 .A) (𝓜 .mem) (𝓡 .run)) 𝓜 𝓡 code.env #to-of f-to-of-def.routine code.calls-sliced·rows·to-of (f-to-of-thm.met 𝓤 H 𝓜 𝓖 𝓡))
+    (cited 𝓤 H (Ct-answer-of 𝓤 H (𝓖 .A) (𝓜 .mem) (𝓡 .run)) 𝓜 𝓡 code.env #answer-of f-answer-of-def.routine code.calls-sliced·tasks·answer-of (f-answer-of-thm.met 𝓤 H 𝓜 𝓖 𝓡))
+    (cited 𝓤 H (Ct-to-of 𝓤 H (𝓖 .A) (𝓜 .mem) (𝓡 .run)) 𝓜 𝓡 code.env #to-of f-to-of-def.routine code.calls-sliced·tasks·to-of (f-to-of-thm.met 𝓤 H 𝓜 𝓖 𝓡))
     (cited 𝓤 H (Ct-turn-number 𝓤 H (𝓖 .A) (𝓜 .mem) (𝓡 .run)) 𝓜 𝓡 code.env #turn-number f-turn-number-def.routine code.calls-sliced·replaying·turn-number (f-turn-number-thm.met 𝓤 H 𝓜 𝓖 𝓡))
     (cited 𝓤 H (Ct-record-of 𝓤 H (𝓖 .A) (𝓜 .mem) (𝓡 .run)) 𝓜 𝓡 code.env #record-of f-record-of-def.routine code.calls-slices·table·record-of (f-record-of-thm.met 𝓤 H 𝓜 𝓖 𝓡))
     (cited 𝓤 H (Ct-turn 𝓤 H (𝓖 .A) (𝓜 .mem) (𝓡 .run)) 𝓜 𝓡 code.env #turn f-turn-def.routine code.calls-sliced·replaying·turn (f-turn-thm.met 𝓤 H 𝓜 𝓖 𝓡)))

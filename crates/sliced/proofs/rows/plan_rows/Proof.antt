@@ -4,7 +4,7 @@ use mathlib.Core.Path.{sym, ap, _∙_}
 use Prim.Native.Nat.{ℕ}
 use native.Mathlib.Omega.{arith}
 use native.Mathlib.Nat.{mul-le-mul-right}
-use Rattle.sliced.specs.Inner.{taskOf}
+use Rattle.sliced.specs.Inner.{rowsTask}
 use Rattle.sliced.proofs.RowsBy.{by-rows-fit}
 use Rattle.edges.specs.Cases.{noOffsets}
 use Rattle.slices.specs.Slicing.{single}
@@ -13,7 +13,7 @@ use Rattle.pictures.proofs.RowCalls.{ends}
 use Rattle.sliced.proofs.rows.plan_rows.Statement.{statement}
 use Rattle.sliced.proofs.rows.plan_rows.Tie as tie
 
-small : tie.Need-task-of-requires
+small : tie.Need-rows-task-requires
 small c κs z =
     let a = c .before .before .before .before .before .args in
     let g = by-rows-fit (a .s) (a .part) (a .size) (a .a) (a .b) (a .c) (a .luma) (a .u) (a .v) (a .numbers .now) (a .strengths .now) (a .qps .now) (a .t8s .now) (sym (c .refuse-sliced-rows .ensures) ∙ z) (single noOffsets) in
@@ -25,7 +25,7 @@ returns : tie.Need-returns
 returns c =
     let k = c .before in
     let a = k .before .before .before .before .before .args in
-    c .task-of .ensures ∙ ap (λ (n : ℕ). taskOf n (a .size .w) (a .a) (a .b)) (k .refuse-sliced-rows .ensures)
+    c .rows-task .ensures ∙ ap (λ (n : ℕ). rowsTask n (a .size .w) (a .a) (a .b)) (k .refuse-sliced-rows .ensures)
 
 pub plan-rows-spec : {M : Type 1} → statement M
 plan-rows-spec = tie.close (tie.spec (λ c κs. search needs) small returns)

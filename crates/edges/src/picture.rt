@@ -20,7 +20,7 @@ use crate::settings::plan_at;
 use sizes::Part;
 use sizes::Size;
 
-// All of them.
+// A slice that lets all of them be.
 pub fn every_edge() -> EdgesOn
     ensures { λ r. ⌜ r ≡ everyEdge ⌝ }
 {

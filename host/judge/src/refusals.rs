@@ -173,6 +173,16 @@ fn spoil(s: &mut Session, r: &mut Rng, mut q: Request, damages: &[(u32, Damage)]
 /// A change that is sure to call a number forth.
 pub type Sure = (u32, fn(&mut Request));
 
+/// Whether this filtering call can give the number: the whole picture has no place to be outside of, and marks
+/// are a visit's.
+pub fn can_give(call: Call, number: u32) -> bool {
+    match number {
+        2 => call != Call::Whole,
+        13 | 14 => call == Call::Visit,
+        _ => true,
+    }
+}
+
 /// Two changes of `sure`: the one that stands first there, since it is asked first, is the answer.
 pub fn pair(s: &mut Session, mut q: Request, sure: &[Sure], one: usize, other: usize) -> Outcome {
     let [(asked, first), (_, second)] = [one.min(other), one.max(other)].map(|i| sure[i]);

@@ -4,6 +4,7 @@ use crate::refusals::{self, Sure};
 use crate::request::{Call, Request, FILTER_CALLS, STRENGTH_CALLS};
 use crate::session::{Outcome, Session};
 use crate::small::{blocky, product, two_macroblocks, Thin};
+use deblock::SliceRecord;
 
 pub fn run(s: &mut Session, thin: &mut Thin) -> Outcome {
     every_part(s)?;
@@ -12,19 +13,25 @@ pub fn run(s: &mut Session, thin: &mut Thin) -> Outcome {
 }
 
 /// Every byte for the part, in every call: with planes of a frame and with those of two fields, in an empty
-/// range of rows and not; a strength call, which any byte but 0 tells of a field, side by side and one above
-/// the other, and under an intra macroblock.
+/// range of rows and not, with one slice and without; a strength call, which any byte but 0 tells of a field,
+/// side by side and one above the other, and under an intra macroblock.
 fn every_part(s: &mut Session) -> Outcome {
     for (part, second, call, third) in product([256, 2, 3, 2]) {
         let part = part as u8;
         let q = Request { part, first: 2 * third, ..ready(second as u8, FILTER_CALLS[call]) };
         s.check("parts", &q)?;
+        s.check("parts", &with_one_slice(q))?;
         let mut q = two_macroblocks(part, 2 - second, 1 + second, [[(5, (0, 0)); 2], [(5, (0, 2)); 2]]);
         q.inter[..16 * second * third].fill(0);
         (q.call, q.kind) = (STRENGTH_CALLS[call], 3);
         s.check("parts", &q)?;
     }
     Ok(())
+}
+
+fn with_one_slice(q: Request) -> Request {
+    let whole = SliceRecord { mode: 0, a: 0, b: 0 };
+    Request { sliced: true, slices: vec![whole].into(), numbers: vec![0; q.w * q.h].into(), ..q }
 }
 
 /// A filtering call on 2 by 2 macroblocks, for a visit on the last of them.
@@ -76,12 +83,7 @@ const SURE: [Sure; 13] = [
 fn every_pair_of_refusals(s: &mut Session) -> Outcome {
     for (first, second, call, field) in product([SURE.len(), SURE.len(), 3, 2]) {
         let call = FILTER_CALLS[call];
-        let unasked: &[u32] = match call {
-            Call::Whole => &[2, 13, 14],
-            Call::Rows => &[13, 14],
-            _ => &[],
-        };
-        if ![first, second].iter().any(|i| unasked.contains(&SURE[*i].0)) {
+        if [first, second].iter().all(|i| refusals::can_give(call, SURE[*i].0)) {
             refusals::pair(s, ready(1 + field as u8, call), &SURE, first, second)?;
         }
     }

@@ -215,14 +215,9 @@ const SURE: [Sure; 24] = [
 fn every_pair_of_refusals(s: &mut Session, part: u8) -> Outcome {
     for (first, second, call, _) in product([SURE.len(), SURE.len(), 3, 1]) {
         let call = FILTER_CALLS[call];
-        let unasked: &[u32] = match call {
-            Call::Whole => &[2, 13, 14],
-            Call::Rows => &[13, 14],
-            _ => &[],
-        };
         let numbers = [first, second].map(|i| SURE[i].0);
         let is_cut = [5, 6].contains(&first.min(second)) && numbers.contains(&20);
-        if !is_cut && !numbers.iter().any(|number| unasked.contains(number)) {
+        if !is_cut && numbers.iter().all(|number| refusals::can_give(call, *number)) {
             let mut q = ready(part, call, 2, 2);
             (q.x, q.y, q.t8s) = (1, 1, vec![0; 4].into());
             lend(&mut q, &[record(0, 0, 0), record(1, 2, 2), record(2, -2, 4)], &[1, 0, 0, 0]);

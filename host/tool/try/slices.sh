@@ -56,12 +56,10 @@ damaged() {
 damaged $((table - 2)) "offset A: 7 beside slices, which have their own"
 damaged $((table + 2)) "a slice's mode: 7 is out of range"
 damaged $((numbers + 2)) "the slice numbers: 7 is outside a table of 5"
-head -c $((table + 9)) "$slices" >"$work/cut-slices.bad"
-expect 2 replay "$work/cut-slices.bad"
-says "at byte $((table + 9)): a slice's offset A: 1 bytes are wanted, the file ends after 0"
-head -c $((numbers + 5)) "$slices" >"$work/cut-numbers.bad"
-expect 2 replay "$work/cut-numbers.bad"
-says "at byte $numbers: the slice numbers: 32 bytes are wanted, the file ends after 5"
+cut_off $((table + 9)) "$slices" \
+    "at byte $((table + 9)): a slice's offset A: 1 bytes are wanted, the file ends after 0"
+cut_off $((numbers + 5)) "$slices" \
+    "at byte $numbers: the slice numbers: 32 bytes are wanted, the file ends after 5"
 
 # the second of three slices is late: what has arrived of the third waits for it
 late=$data/slices-p-003.dbv

@@ -33,12 +33,10 @@ END
 lists=$data/lists-b-001.dbv  # 3 by 3 macroblocks, tables of 6 and 3 pictures
 list0=$((14 + 768 * 9 + 2))  # where list 0's table starts, with its length
 list1=$((list0 + 2 + 2 * 6)) # where list 1's does
-head -c $((list1 + 1)) "$lists" >"$work/length.bad"
-expect 2 replay "$work/length.bad"
-says "at byte $list1: the length of list 1's table: 2 bytes are wanted, the file ends after 1"
-head -c $((list0 + 5)) "$lists" >"$work/cut-table.bad"
-expect 2 replay "$work/cut-table.bad"
-says "at byte $((list0 + 2)): list 0's table: 12 bytes are wanted, the file ends after 3"
+cut_off $((list1 + 1)) "$lists" \
+    "at byte $list1: the length of list 1's table: 2 bytes are wanted, the file ends after 1"
+cut_off $((list0 + 5)) "$lists" \
+    "at byte $((list0 + 2)): list 0's table: 12 bytes are wanted, the file ends after 3"
 {
     head -c "$list1" "$lists"
     printf '\000\000'

@@ -2,16 +2,20 @@
 use mathlib.Core.Path.{_≡_, refl, ap, _∙_}
 use mathlib.Core.Bool.{Bool, false}
 use mathlib.Core.List.{List}
-use Prim.Native.Nat.{ℕ, _%_, _<_}
+use Prim.Native.Nat.{ℕ, _%_, _≤_, _<_}
+use native.Mathlib.Omega.{arith}
 use lib.ListN.{getD}
 use Rattle.laws.specs.Loop.{upTo}
 use Rattle.laws.specs.Places.{Plane}
-use Rattle.lines.specs.Depth.{Depth}
-use Rattle.lines.specs.Luma.{normalLine, strongLine}
-use Rattle.lines.specs.Chroma.{normalShort, strongShort}
+use Rattle.lines.specs.Depth.{Depth, eight}
+use Rattle.lines.specs.Inner.{capRow}
+use Rattle.lines.specs.Luma.{strongLine}
+use Rattle.lines.specs.Chroma.{strongShort}
 use Rattle.lines.specs.Planes.{lumaAt, chromaAt}
+use Rattle.lines.proofs.TableParts.{cap-small}
+use Rattle.narrow.specs.Capped.{cappedLine, cappedShort}
 use Rattle.batches.specs.Lines.{segmentStrength, upper, longAt, uOrV, uvStrength, shortAt, passOf}
-use Rattle.batches.specs.Lanes.{atSlot, weakRow, tcRow, strongRow, fourEach, twoEach, eightEach, isWeak, isStrong, any}
+use Rattle.batches.specs.Lanes.{slotOf, atSlot, strongRow, fourEach, twoEach, eightEach, isWeak, isStrong, any}
 use Rattle.batches.specs.declared.lanes.Four.{Four}
 use Rattle.batches.specs.declared.lanes.Thresholds.{Thresholds}
 use Rattle.batches.proofs.Bands.{Columns, long-columns}
@@ -19,20 +23,24 @@ use Rattle.batches.proofs.Segments.{fourEach-at, twoEach-at, eightEach-
 use Rattle.batches.proofs.Shapes.{lumaShape, chromaShape}
 use Rattle.batches.proofs.Passes.{pass-idle, weak-pass, strong-pass, both-passes}
 
--- ---- luma: al and tc are four each of the rows ra and rt
+-- ---- luma: what the code lends are four each of a row
 module _ (d : Depth) (s : Four) (l : Thresholds) where
-  four-at : {r x : List ℕ} (R : Thresholds → List ℕ) → r ≡ R l → x ≡ fourEach r s → (k : ℕ) → k < 16 → getD x k 0 ≡ atSlot (R l) (segmentStrength 4 s k)
-  four-at R e f k h = ap (λ (y : List ℕ). getD y k 0) (f ∙ ap (λ (y : List ℕ). fourEach y s) e) ∙ fourEach-at (R l) s k h
+  four-at : {x : List ℕ} (r : List ℕ) → x ≡ fourEach r s → (k : ℕ) → k < 16 → getD x k 0 ≡ atSlot r (segmentStrength 4 s k)
+  four-at r f k h = ap (λ (y : List ℕ). getD y k 0) f ∙ fourEach-at r s k h
 
-  pub long-weak : {ra rt al tc : List ℕ} → ra ≡ weakRow l → al ≡ fourEach ra s → rt ≡ tcRow l → tc ≡ fourEach rt s → (t : Plane)
-      → upTo 16 (λ k. lumaAt (normalLine d (getD al k 0) (l .beta) (getD tc k 0)) k 16) t ≡ upTo 16 (passOf isWeak (segmentStrength 4 s) (longAt d s l)) t
+  pub long-weak : {caps : List ℕ} → caps ≡ fourEach (capRow d (l .index)) s → (t : Plane)
+      → upTo 16 (λ k. lumaAt (cappedLine d (l .alpha) (l .beta) (getD caps k 0)) k 16) t ≡ upTo 16 (passOf isWeak (segmentStrength 4 s) (longAt d s l)) t
   unfolding lumaAt lumaShape
-  long-weak a b c e = weak-pass (lumaShape d) upper (segmentStrength 4 s) (λ k. l) _ _ _ (four-at weakRow a b) (λ k h. refl) (four-at tcRow c e)
+  long-weak e = weak-pass (lumaShape d) upper (segmentStrength 4 s) (λ k. l) _ _ _ (λ k h. refl) (λ k h. refl) (four-at (capRow d (l .index)) e)
+
+  -- no cap is larger than a table's, far below what a line takes
+  pub long-small : {caps : List ℕ} (i : ℕ) → caps ≡ fourEach (capRow eight i) s → (k : ℕ) → k < 16 → getD caps k 0 ≤ 93
+  long-small i e k h = rw (four-at (capRow eight i) e k h) (omega (arith, cap-small i (slotOf (segmentStrength 4 s k))))
 
   pub long-strong : {ra al : List ℕ} → ra ≡ strongRow l → al ≡ fourEach ra s → (t : Plane)
       → upTo 16 (λ k. lumaAt (strongLine (getD al k 0) (l .beta)) k 16) t ≡ upTo 16 (passOf isStrong (segmentStrength 4 s) (longAt d s l)) t
   unfolding lumaAt lumaShape
-  long-strong a b = strong-pass (lumaShape d) upper (segmentStrength 4 s) (λ k. l) _ _ (four-at strongRow a b) (λ k h. refl)
+  long-strong a b = strong-pass (lumaShape d) upper (segmentStrength 4 s) (λ k. l) _ _ (four-at (strongRow l) (b ∙ ap (λ (y : List ℕ). fourEach y s) a)) (λ k h. refl)
 
   -- a pass that has none of them
   pub long-idle : (on : ℕ → Bool) → on 0 ≡ false → any on s ≡ false → (t : Plane) → upTo 16 (passOf on (segmentStrength 4 s) (longAt d s l)) t ≡ t
@@ -42,25 +50,32 @@ module _ (d : Depth) (s : Four) (l : Thresholds) where
   unfolding lumaAt lumaShape
   long-both = both-passes (lumaShape d) upper (segmentStrength 4 s) (λ k. l) 0 long-columns
 
--- ---- chroma: two each of U's rows and V's, and eight betas of each
+-- ---- chroma: two each of U's row and V's, and eight of a value of each
 module _ (d : Depth) (s : Four) (l m : Thresholds) where
-  two-at : {p q x : List ℕ} (R : Thresholds → List ℕ) → p ≡ R l → q ≡ R m → x ≡ twoEach p q s → (k : ℕ) → k < 16 → getD x k 0 ≡ atSlot (R (uOrV l m k)) (uvStrength s k)
-  two-at R e f g k h = ap (λ (y : List ℕ). getD y k 0) (g ∙ (λ i. twoEach (e i) (f i) s)) ∙ twoEach-at R l m s k h
+  two-at : {x : List ℕ} (R : Thresholds → List ℕ) → x ≡ twoEach (R l) (R m) s → (k : ℕ) → k < 16 → getD x k 0 ≡ atSlot (R (uOrV l m k)) (uvStrength s k)
+  two-at R g k h = ap (λ (y : List ℕ). getD y k 0) g ∙ twoEach-at R l m s k h
 
-  betas-at : {be : List ℕ} → be ≡ eightEach (l .beta) (m .beta) → (k : ℕ) → k < 16 → getD be k 0 ≡ uOrV l m k .beta
-  betas-at e k h = ap (λ (y : List ℕ). getD y k 0) e ∙ eightEach-at l m k h
+  each-at : {x : List ℕ} (f : Thresholds → ℕ) → x ≡ eightEach (f l) (f m) → (k : ℕ) → k < 16 → getD x k 0 ≡ f (uOrV l m k)
+  each-at f e k h = ap (λ (y : List ℕ). getD y k 0) e ∙ eightEach-at f l m k h
 
   module _ (place : ℕ → ℕ) where
-    pub short-weak : {pa qa al pt qt tc be : List ℕ} → pa ≡ weakRow l → qa ≡ weakRow m → al ≡ twoEach pa qa s → pt ≡ tcRow l → qt ≡ tcRow m → tc ≡ twoEach pt qt s
+    pub short-weak : {caps al be : List ℕ} → caps ≡ twoEach (capRow d (l .index)) (capRow d (m .index)) s → al ≡ eightEach (l .alpha) (m .alpha)
         → be ≡ eightEach (l .beta) (m .beta) → (t : Plane)
-        → upTo 16 (λ k. chromaAt (normalShort d (getD al k 0) (getD be k 0) (getD tc k 0)) (place k) 16) t ≡ upTo 16 (passOf isWeak (uvStrength s) (shortAt d place s l m)) t
+        → upTo 16 (λ k. chromaAt (cappedShort d (getD al k 0) (getD be k 0) (getD caps k 0)) (place k) 16) t ≡ upTo 16 (passOf isWeak (uvStrength s) (shortAt d place s l m)) t
     unfolding chromaAt chromaShape
-    short-weak a b c e f g h = weak-pass (chromaShape d) place (uvStrength s) (uOrV l m) _ _ _ (two-at weakRow a b c) (betas-at h) (two-at tcRow e f g)
+    short-weak e a b =
+        weak-pass (chromaShape d) place (uvStrength s) (uOrV l m) _ _ _ (each-at (λ (n : Thresholds). n .alpha) a) (each-at (λ (n : Thresholds). n .beta) b)
+        (two-at (λ (n : Thresholds). capRow d (n .index)) e)
+
+    pub short-small : {caps : List ℕ} → caps ≡ twoEach (capRow eight (l .index)) (capRow eight (m .index)) s → (k : ℕ) → k < 16 → getD caps k 0 ≤ 93
+    short-small e k h =
+        rw (two-at (λ (n : Thresholds). capRow eight (n .index)) e k h) (omega (arith, cap-small (uOrV l m k .index) (slotOf (uvStrength s k))))
 
     pub short-strong : {pa qa al be : List ℕ} → pa ≡ strongRow l → qa ≡ strongRow m → al ≡ twoEach pa qa s → be ≡ eightEach (l .beta) (m .beta) → (t : Plane)
         → upTo 16 (λ k. chromaAt (strongShort (getD al k 0) (getD be k 0)) (place k) 16) t ≡ upTo 16 (passOf isStrong (uvStrength s) (shortAt d place s l m)) t
     unfolding chromaAt chromaShape
-    short-strong a b c e = strong-pass (chromaShape d) place (uvStrength s) (uOrV l m) _ _ (two-at strongRow a b c) (betas-at e)
+    short-strong a b c e =
+        strong-pass (chromaShape d) place (uvStrength s) (uOrV l m) _ _ (two-at strongRow (c ∙ (λ i. twoEach (a i) (b i) s))) (each-at (λ (n : Thresholds). n .beta) e)
 
     pub short-idle : (on : ℕ → Bool) → on 0 ≡ false → any on s ≡ false → (t : Plane) → upTo 16 (passOf on (uvStrength s) (shortAt d place s l m)) t ≡ t
     short-idle on z e t = pass-idle on (uvStrength s) (shortAt d place s l m) t (λ k. no-one on s z e 2 (k % 8))

@@ -13,8 +13,9 @@ use Rattle.laws.specs.Places.{Plane, lineAt}
 use Rattle.laws.proofs.Local.{commute, local-when, lineAt-in}
 use Rattle.laws.proofs.Loop.{upTo-same, upTo-idle}
 use Rattle.laws.proofs.Loops.{upTo-fuse}
+use Rattle.lines.specs.Inner.{capRow}
 use Rattle.batches.specs.Lines.{passOf}
-use Rattle.batches.specs.Lanes.{atSlot, weakRow, tcRow, strongRow, isWeak, isStrong}
+use Rattle.batches.specs.Lanes.{atSlot, strongRow, isWeak, isStrong}
 use Rattle.batches.specs.declared.lanes.Thresholds.{Thresholds}
 use Rattle.batches.proofs.Bands.{Columns}
 use Rattle.batches.proofs.Shapes.{Shape, withOf, not-weak, stays, weak-lane, strong-lane}
@@ -55,17 +56,18 @@ module _ (place : ℕ → ℕ) (r m : ℕ) (cs : Columns place r m) (f : ℕ →
 pub pass-idle : (on : ℕ → Bool) (strength : ℕ → ℕ) (line : ℕ → Plane → Plane) (t : Plane) → ((k : ℕ) → on (strength k) ≡ false) → upTo 16 (passOf on strength line) t ≡ t
 pass-idle on strength line t e = upTo-idle 16 (passOf on strength line) t (λ k u h. ap (λ (b : Bool). cond b (line k u) u) (e k))
 
--- ---- a pass by its lanes: line k has the thresholds `by k` and is lent alpha, beta and tC0
+-- ---- a pass by its lanes: line k has the thresholds `by k` and is lent alpha and beta, and in the first pass
+-- a cap
 module _ (h : Shape) (place strength : ℕ → ℕ) (by : ℕ → Thresholds) where
   abbrev pub lineBy : ℕ → Plane → Plane
   lineBy k = lineAt (h .n) (withOf h (by k) (strength k)) (place k) 16
 
-  pub weak-pass : (al be tc : ℕ → ℕ) → ((k : ℕ) → k < 16 → al k ≡ atSlot (weakRow (by k)) (strength k)) → ((k : ℕ) → k < 16 → be k ≡ by k .beta)
-      → ((k : ℕ) → k < 16 → tc k ≡ atSlot (tcRow (by k)) (strength k)) → (t : Plane)
-      → upTo 16 (λ k. lineAt (h .n) (h .normal (al k) (be k) (tc k)) (place k) 16) t ≡ upTo 16 (passOf isWeak strength lineBy) t
-  weak-pass al be tc a b c t =
+  pub weak-pass : (al be cap : ℕ → ℕ) → ((k : ℕ) → k < 16 → al k ≡ by k .alpha) → ((k : ℕ) → k < 16 → be k ≡ by k .beta)
+      → ((k : ℕ) → k < 16 → cap k ≡ atSlot (capRow (h .depth) (by k .index)) (strength k)) → (t : Plane)
+      → upTo 16 (λ k. lineAt (h .n) (h .capped (al k) (be k) (cap k)) (place k) 16) t ≡ upTo 16 (passOf isWeak strength lineBy) t
+  weak-pass al be cap a b c t =
       upTo-same 16 _ _ t
-      (λ k u l. (λ i. lineAt (h .n) (h .normal (a k l i) (b k l i) (c k l i)) (place k) 16 u) ∙ weak-lane h (by k) (place k) 16 u (strength k))
+      (λ k u l. (λ i. lineAt (h .n) (h .capped (a k l i) (b k l i) (c k l i)) (place k) 16 u) ∙ weak-lane h (by k) (place k) 16 u (strength k))
 
   pub strong-pass : (al be : ℕ → ℕ) → ((k : ℕ) → k < 16 → al k ≡ atSlot (strongRow (by k)) (strength k)) → ((k : ℕ) → k < 16 → be k ≡ by k .beta) → (t : Plane)
       → upTo 16 (λ k. lineAt (h .n) (h .strong (al k) (be k)) (place k) 16) t ≡ upTo 16 (passOf isStrong strength lineBy) t

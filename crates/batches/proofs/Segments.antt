@@ -1,17 +1,19 @@
 -- What each line is lent, by its segment, and what holds of the strengths of all. Assumes nothing.
-use mathlib.Core.Path.{_≡_, refl, sym, subst}
+use mathlib.Core.Path.{_≡_, refl, sym, ap, subst}
 use mathlib.Core.Logic.{⊎-elim}
-use mathlib.Core.Bool.{Bool, true, false}
+use mathlib.Core.Bool.{Bool, true, false, not}
 use mathlib.Core.List.{List, [], _∷_}
-use Prim.Native.Nat.{ℕ, zero, suc, _/_, _<_}
+use Prim.Native.Nat.{ℕ, zero, suc, _/_, _≤_, _<_}
 use native.Mathlib.Nat.{not-suc-le-zero}
-use borrow.Author.Tests.{eqb-true}
-use lib.Dec.{eqb}
+use native.Mathlib.Omega.{arith}
+use borrow.Author.Tests.{eqb-true, le-ltb}
+use lib.Bits.{bitOr, or-add-and, and-le-l, and-le-r}
+use lib.Dec.{T, eqb, ltb, nltb→le}
 use lib.ListN.{getD}
 use Rattle.laws.specs.Local.{All}
-use Rattle.laws.proofs.Bools.{and-true, or-false}
+use Rattle.laws.proofs.Bools.{or-false}
 use Rattle.batches.specs.Lines.{segmentStrength, uOrV, uvStrength}
-use Rattle.batches.specs.Lanes.{atSlot, fourEach, twoEach, eightEach, any, noStrength}
+use Rattle.batches.specs.Lanes.{atSlot, fourEach, twoEach, eightEach, isWeak, isStrong, any, wordOf, noStrength}
 use Rattle.batches.specs.declared.lanes.Four.{Four}
 use Rattle.batches.specs.declared.lanes.Thresholds.{Thresholds}
 use Rattle.batches.proofs.MovedPlaces.{last-or-before}
@@ -36,9 +38,10 @@ twoEach-at R l m s =
     each (λ k. getD (twoEach (R l) (R m) s) k 0 ≡ atSlot (R (uOrV l m k)) (uvStrength s k)) 16
     (refl, (refl, (refl, (refl, (refl, (refl, (refl, (refl, (refl, (refl, (refl, (refl, (refl, (refl, (refl, (refl, tt))))))))))))))))
 
-pub eightEach-at : (l m : Thresholds) (k : ℕ) → k < 16 → getD (eightEach (l .beta) (m .beta)) k 0 ≡ uOrV l m k .beta
-eightEach-at l m =
-    each (λ k. getD (eightEach (l .beta) (m .beta)) k 0 ≡ uOrV l m k .beta) 16
+-- f is a value by thresholds
+pub eightEach-at : (f : Thresholds → ℕ) (l m : Thresholds) (k : ℕ) → k < 16 → getD (eightEach (f l) (f m)) k 0 ≡ f (uOrV l m k)
+eightEach-at f l m =
+    each (λ k. getD (eightEach (f l) (f m)) k 0 ≡ f (uOrV l m k)) 16
     (refl, (refl, (refl, (refl, (refl, (refl, (refl, (refl, (refl, (refl, (refl, (refl, (refl, (refl, (refl, (refl, tt))))))))))))))))
 
 -- ---- what holds of 0 and of each of a list holds wherever it is read
@@ -58,7 +61,29 @@ no-one on s z e n k =
 -- strengths that are all 0
 pub no-strength-at : (s : Four) → noStrength s ≡ true → (n k : ℕ) → segmentStrength n s k ≡ 0
 no-strength-at s e n k =
-    let x = and-true _ (eqb (s .d) 0) e in
-    let y = and-true _ (eqb (s .c) 0) (x .0) in
-    let w = and-true (eqb (s .a) 0) (eqb (s .b) 0) (y .0) in
-    anywhere (λ b. b ≡ 0) (s .a ∷ s .b ∷ s .c ∷ s .d ∷ []) (k / n) refl (eqb-true _ 0 (w .0), (eqb-true _ 0 (w .1), (eqb-true _ 0 (y .1), (eqb-true _ 0 (x .1), tt))))
+    let z = eqb-true (wordOf s) 0 e in
+    anywhere (λ b. b ≡ 0) (s .a ∷ s .b ∷ s .c ∷ s .d ∷ []) (k / n) refl (omega arith, (omega arith, (omega arith, (omega arith, tt))))
+
+-- ---- the tests of all four at once
+-- strengths that are all 4 have none for the pass of 1 to 3
+pub all-four : (s : Four) → s .a < 256 → s .b < 256 → s .c < 256 → s .d < 256 → wordOf s ≡ 67372036 → any isWeak s ≡ false
+all-four s ha hb hc hd e =
+    let w : (x : ℕ) → x ≡ 4 → isWeak x ≡ false = λ x q. ap isWeak q in
+    simp (w (s .a) (omega arith), w (s .b) (omega arith), w (s .c) (omega arith), w (s .d) (omega arith))
+
+-- each strength is at most their bits together
+or-above : (x y : ℕ) → (x ≤ bitOr x y) × (y ≤ bitOr x y)
+or-above x y = let e = or-add-and x y in let l = and-le-l x y in let r = and-le-r x y in (omega arith, omega arith)
+
+-- strengths whose bits are those of 3 have none for the pass of 4
+pub none-strong : (s : Four) → ltb 3 (bitOr (bitOr (bitOr (s .a) (s .b)) (s .c)) (s .d)) ≡ false → any isStrong s ≡ false
+none-strong s e =
+    let ab = or-above (s .a) (s .b) in
+    let abc = or-above (bitOr (s .a) (s .b)) (s .c) in
+    let all = or-above (bitOr (bitOr (s .a) (s .b)) (s .c)) (s .d) in
+    let most : bitOr (bitOr (bitOr (s .a) (s .b)) (s .c)) (s .d) ≤ 3 = nltb→le 3 _ (is-not e) in
+    let w : (x : ℕ) → x ≤ 3 → isStrong x ≡ false = λ x h. le-ltb 3 x h in
+    simp (w (s .a) (omega arith), w (s .b) (omega arith), w (s .c) (omega arith), w (s .d) (omega arith))
+  where
+    is-not : {b : Bool} → b ≡ false → T (not b)
+    is-not q = subst (λ (b : Bool). T (not b)) (sym q) tt

@@ -1,6 +1,6 @@
 -- Apart: no promise to a caller of the public calls rests on it. The lanes of a batch: what each of its
 -- sixteen lines is lent in a pass.
-use Prim.Native.Nat.{ℕ}
+use Prim.Native.Nat.{ℕ, _+_, _*_}
 use mathlib.Core.Bool.{Bool, cond, _&&_, _||_}
 use mathlib.Core.List.{List, [], _∷_}
 use lib.Dec.{ltb, eqb}
@@ -8,16 +8,11 @@ use lib.ListN.{getD}
 use Rattle.batches.specs.declared.lanes.Four.{Four}
 use Rattle.batches.specs.declared.lanes.Thresholds.{Thresholds}
 
--- strengths are of five kinds, since 4 and above are one. A row has a value for each kind: alpha and tC0 in
--- the pass of strengths 1 to 3, alpha in the other. An alpha of 0 leaves a line
+-- strengths are of five kinds, since 4 and above are one. A row has a value for each kind: in the pass of
+-- strengths 1 to 3 a cap (`capRow` of lines/specs/Inner), in the other an alpha. A cap or an alpha of 0
+-- leaves a line
 abbrev pub slotOf : ℕ → ℕ
 slotOf s = cond (ltb s 4) s 4
-
-abbrev pub weakRow : Thresholds → List ℕ
-weakRow l = 0 ∷ l .alpha ∷ l .alpha ∷ l .alpha ∷ 0 ∷ []
-
-abbrev pub tcRow : Thresholds → List ℕ
-tcRow l = 0 ∷ l .tc1 ∷ l .tc2 ∷ l .tc3 ∷ 0 ∷ []
 
 abbrev pub strongRow : Thresholds → List ℕ
 strongRow l = 0 ∷ 0 ∷ 0 ∷ 0 ∷ l .alpha ∷ []
@@ -51,9 +46,13 @@ isStrong s = ltb 3 s
 abbrev pub any : (ℕ → Bool) → Four → Bool
 any on s = ((on (s .a) || on (s .b)) || on (s .c)) || on (s .d)
 
+-- the four strengths as one number, so that one test asks all
+abbrev pub wordOf : Four → ℕ
+wordOf s = s .a + 256 * (s .b + 256 * (s .c + 256 * s .d))
+
 -- no line can change: every strength is 0, or alpha is
 abbrev pub noStrength : Four → Bool
-noStrength s = ((eqb (s .a) 0 && eqb (s .b) 0) && eqb (s .c) 0) && eqb (s .d) 0
+noStrength s = eqb (wordOf s) 0
 
 abbrev pub stillEdge : Four → Thresholds → Bool
 stillEdge s l = noStrength s || eqb (l .alpha) 0

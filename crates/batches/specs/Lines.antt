@@ -1,7 +1,7 @@
 -- Apart: no promise to a caller of the public calls rests on it. The lines of an edge, each at the strength
 -- of its segment. What stands before "in a batch" is what the promises of `luma_lines` and `chroma_pair`
 -- speak of; the rest of specs/ is for the functions that they call.
-use Prim.Native.Nat.{ℕ, _+_, _*_, _/_, _%_, _≤_}
+use Prim.Native.Nat.{ℕ, _+_, _-_, _*_, _/_, _%_, _≤_, _<_}
 use mathlib.Core.Path.{_≡_}
 use mathlib.Core.Bool.{Bool, cond}
 use mathlib.Core.List.{[], _∷_}
@@ -15,9 +15,10 @@ use Rattle.lines.specs.declared.luma.Line.{Line}
 use Rattle.lines.specs.Chroma.{chromaLine}
 use Rattle.lines.specs.declared.chroma.Short.{Short}
 use Rattle.lines.specs.Planes.{lumaAt, chromaAt}
-use Rattle.lines.specs.Inner.{tcBy}
+use Rattle.lines.specs.Tables.{tc0At}
 use Rattle.lines.specs.declared.luma.Six.{Six}
 use Rattle.lines.specs.declared.shared.Two.{Two}
+use Rattle.batches.specs.declared.chroma.Both.{Both}
 use Rattle.batches.specs.declared.lanes.Four.{Four}
 use Rattle.batches.specs.declared.lanes.Thresholds.{Thresholds}
 
@@ -27,10 +28,10 @@ segmentStrength n s k = getD (s .a ∷ s .b ∷ s .c ∷ s .d ∷ []) (k / n) 0
 
 -- what a line of the strength bs becomes
 abbrev pub lumaWith : Depth → Thresholds → ℕ → Line → Six
-lumaWith d l bs = lumaLine d bs (l .alpha) (l .beta) (tcBy bs (l .tc1) (l .tc2) (l .tc3))
+lumaWith d l bs = lumaLine d bs (l .alpha) (l .beta) (tc0At (l .index) (bs - 1) * d .scale)
 
 abbrev pub chromaWith : Depth → Thresholds → ℕ → Short → Two
-chromaWith d l bs = chromaLine d bs (l .alpha) (l .beta) (tcBy bs (l .tc1) (l .tc2) (l .tc3))
+chromaWith d l bs = chromaLine d bs (l .alpha) (l .beta) (tc0At (l .index) (bs - 1) * d .scale)
 
 -- the sixteen luma lines of an edge, or its eight chroma lines, one after the other: `at` is the place of the
 -- first one's first sample, `along` the way from a line to the next, and `step` the way across the edge
@@ -39,6 +40,10 @@ longLines d s l at along step = upTo 16 (λ k. lumaAt (lumaWith d l (segmentStre
 
 unfoldable pub shortLines : Depth → Four → Thresholds → ℕ → ℕ → ℕ → Plane → Plane
 shortLines d s l at along step = upTo 8 (λ k. chromaAt (chromaWith d l (segmentStrength 2 s k)) (at + k * along) step)
+
+-- what an edge is filtered with in both chroma planes has its tC0 in the tables
+abbrev pub InTables : Both → Type 0
+InTables e = (e .u .index < 52) × (e .v .index < 52)
 
 -- n lines of eight samples whose places are apart. Vertical: a line's samples stand side by side, and the
 -- lines are a row apart. Horizontal: the lines stand side by side, and a line's samples are a row apart

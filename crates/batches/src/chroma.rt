@@ -3,14 +3,15 @@
 // to the next and `step` the way across; the second edge is four samples after the first, so that the two
 // share none.
 ghost use mathlib.Core.Path.{_≡_};
-ghost use Prim.Native.Nat.{_+_, _*_, _<_};
-ghost use mathlib.Core.Bool.{_&&_};
+ghost use Prim.Native.Nat.{_+_, _-_, _*_, _<_};
+ghost use mathlib.Core.Bool.{true, _&&_};
 ghost use lib.ListN.{length};
 ghost use Rattle.laws.specs.Loop.{upTo};
 ghost use Rattle.lines.specs.Depth.{eight};
-ghost use Rattle.lines.specs.Inner.{tcBy};
-ghost use Rattle.batches.specs.Lanes.{stillEdge};
-ghost use Rattle.batches.specs.Lines.{Straight, upper, lower, shortAt, shortLines};
+ghost use Rattle.lines.specs.Inner.{tables};
+ghost use Rattle.lines.specs.Tables.{tc0At};
+ghost use Rattle.batches.specs.Lanes.{isWeak, stillEdge};
+ghost use Rattle.batches.specs.Lines.{InTables, Straight, upper, lower, shortAt, shortLines};
 ghost use Rattle.batches.specs.Moves.{takenBoth, stored};
 use crate::chroma_passes::first_edge;
 use crate::chroma_passes::second_edge;
@@ -23,6 +24,7 @@ use crate::moves_both::load_rows;
 use crate::moves_both::store_cols;
 use crate::moves_both::store_rows;
 use lines::planes::filter_chroma_line;
+use lines::tables::tc0_at;
 
 // What an edge is filtered with in both planes.
 pub struct Both {
@@ -57,22 +59,34 @@ fn store(u: &mut [u8], v: &mut [u8], at: usize, along: usize, step: usize, t: [u
     store_rows(u, v, at, step, t);
 }
 
-// tC0 of a strength.
-fn tc0(bs: u8, l: Thresholds) -> u8
-    ensures { λ r. ⌜ r ≡ tcBy bs (l .tc1) (l .tc2) (l .tc3) ⌝ }
+// tC0 of a strength from 1 to 3, at an index of the tables; that of another is not used.
+fn tc0(tab: &[u8; 416], index: usize, bs: u8) -> u8
+    requires { ⌜ now tab ≡ tables ⌝ }
+    requires { ⌜ index < 52 ⌝ }
+    ensures { λ r. ⌜ (isWeak bs ≡ true → r ≡ tc0At index (bs - 1)) ⌝ }
 {
-    if bs == 1 {
-        return l.tc1;
+    if bs < 2 {
+        return tc0_at(tab, index, 0);
     }
-    if bs == 2 {
-        return l.tc2;
+    if bs < 3 {
+        return tc0_at(tab, index, 1);
     }
-    l.tc3
+    tc0_at(tab, index, 2)
 }
 
 // The lines of one edge of one plane one after the other, each at the strength of its segment: where no
 // second edge is in reach, as at the picture's border.
-pub fn chroma_lines(plane: &mut [u8], at: usize, along: usize, step: usize, s: Four, l: Thresholds)
+pub fn chroma_lines(
+    plane: &mut [u8],
+    at: usize,
+    along: usize,
+    step: usize,
+    tab: &[u8; 416],
+    s: Four,
+    l: Thresholds,
+)
+    requires { ⌜ now tab ≡ tables ⌝ }
+    requires { ⌜ l .index < 52 ⌝ }
     requires { ⌜ at + 7 * along + 3 * step < length (now plane) ⌝ }
     ensures { λ _. ⌜ now (plane .exit) ≡ shortLines eight s l at along step (now (plane .entry)) ⌝ }
 {
@@ -82,7 +96,8 @@ pub fn chroma_lines(plane: &mut [u8], at: usize, along: usize, step: usize, s: F
     let bs = [s.a, s.b, s.c, s.d];
     for k in 0..8usize {
         let b = bs[k / 2];
-        filter_chroma_line(plane, at + k * along, step, b, l.alpha, l.beta, tc0(b, l));
+        let tc = tc0(tab, l.index, b);
+        filter_chroma_line(plane, at + k * along, step, b, l.alpha, l.beta, tc);
     }
 }
 
@@ -97,7 +112,9 @@ fn both_still(e: Both) -> bool
 }
 
 // Each line of the batch at its own strength.
-fn chroma_batch(t: [u8; 128], first: Both, second: Both) -> [u8; 128]
+fn chroma_batch(t: [u8; 128], tab: &[u8; 416], first: Both, second: Both) -> [u8; 128]
+    requires { ⌜ now tab ≡ tables ⌝ }
+    requires { ⌜ InTables first × InTables second ⌝ }
     ensures { λ r. ⌜ r ≡ upTo 16 (shortAt eight lower (second .s) (second .u) (second .v)) (upTo 16 (shortAt eight upper (first .s) (first .u) (first .v)) t) ⌝ }
 {
     let s1 = first.s;
@@ -106,7 +123,7 @@ fn chroma_batch(t: [u8; 128], first: Both, second: Both) -> [u8; 128]
     let s2 = second.s;
     let u2 = second.u;
     let v2 = second.v;
-    second_edge(first_edge(t, s1, u1, v1), s2, u2, v2)
+    second_edge(first_edge(t, tab, s1, u1, v1), tab, s2, u2, v2)
 }
 
 // In each plane the lines of the first edge one after the other, then those of the second, each at the
@@ -117,9 +134,12 @@ pub fn chroma_pair(
     at: usize,
     along: usize,
     step: usize,
+    tab: &[u8; 416],
     first: Both,
     second: Both,
 )
+    requires { ⌜ now tab ≡ tables ⌝ }
+    requires { ⌜ InTables first × InTables second ⌝ }
     requires { ⌜ (at + 7 * along + 7 * step < length (now u)) × (at + 7 * along + 7 * step < length (now v)) ⌝ }
     requires { ⌜ Straight 8 along step ⌝ }
     ensures { λ _. ⌜ now (u .exit) ≡ shortLines eight (second .s) (second .u) (at + 4 * step) along step (shortLines eight (first .s) (first .u) at along step (now (u .entry))) ⌝ }
@@ -129,6 +149,6 @@ pub fn chroma_pair(
         return;
     }
     let t = take(u, v, at, along, step);
-    let r = chroma_batch(t, first, second);
+    let r = chroma_batch(t, tab, first, second);
     store(u, v, at, along, step, r);
 }

@@ -1,8 +1,12 @@
 // What each of a batch's sixteen lines is lent, by the strength of its segment. Values come from a row of
 // five, not by branches, which mixed strengths would mislead.
 ghost use mathlib.Core.Path.{_≡_};
+ghost use mathlib.Core.Bool.{false};
 ghost use Prim.Native.Nat.{_<_};
-ghost use Rattle.batches.specs.Lanes.{slotOf, weakRow, tcRow, strongRow, spreadOf, fourEach, twoEach, eightEach, isWeak, isStrong, any, noStrength, stillEdge};
+ghost use Rattle.lines.specs.Depth.{eight};
+ghost use Rattle.lines.specs.Inner.{tables, capRow};
+ghost use Rattle.batches.specs.Lanes.{slotOf, strongRow, spreadOf, fourEach, twoEach, eightEach, isWeak, isStrong, any, wordOf, noStrength, stillEdge};
+use lines::tables::cap_at;
 
 // The strengths of an edge's four segments.
 pub struct Four {
@@ -12,13 +16,12 @@ pub struct Four {
     pub d: u8,
 }
 
-// What the lines of an edge are filtered with. An alpha of 0 leaves them all.
+// What the lines of an edge are filtered with: alpha, beta, and the index that tC0 has in the tables. An
+// alpha of 0 leaves them all.
 pub struct Thresholds {
     pub alpha: u8,
     pub beta: u8,
-    pub tc1: u8,
-    pub tc2: u8,
-    pub tc3: u8,
+    pub index: usize,
 }
 
 // Where a row has the value of a strength: 4 and above are one.
@@ -27,20 +30,6 @@ fn slot(s: u8) -> usize
     ensures small { λ r. ⌜ r < 5 ⌝ }
 {
     if s < 4 { s as usize } else { 4 }
-}
-
-// Alpha in the pass of strengths 1 to 3.
-pub fn weak_row(l: Thresholds) -> [u8; 5]
-    ensures { λ r. ⌜ r ≡ weakRow l ⌝ }
-{
-    [0, l.alpha, l.alpha, l.alpha, 0]
-}
-
-// tC0 in the same pass.
-pub fn tc_row(l: Thresholds) -> [u8; 5]
-    ensures { λ r. ⌜ r ≡ tcRow l ⌝ }
-{
-    [0, l.tc1, l.tc2, l.tc3, 0]
 }
 
 // Alpha in the pass of strength 4.
@@ -79,6 +68,41 @@ pub fn two_each(l: [u8; 5], m: [u8; 5], s: Four) -> [u8; 16]
     spread(l[a], l[b], l[c], l[d], m[a], m[b], m[c], m[d])
 }
 
+// Of each luma line its cap.
+pub fn four_caps(tab: &[u8; 416], index: usize, s: Four) -> [u8; 16]
+    requires { ⌜ now tab ≡ tables ⌝ }
+    requires { ⌜ index < 52 ⌝ }
+    ensures { λ r. ⌜ r ≡ fourEach (capRow eight index) s ⌝ }
+{
+    let a = cap_at(tab, index, slot(s.a));
+    let b = cap_at(tab, index, slot(s.b));
+    let c = cap_at(tab, index, slot(s.c));
+    let d = cap_at(tab, index, slot(s.d));
+    spread(a, a, b, b, c, c, d, d)
+}
+
+// Of each chroma line its cap: those of U's are at the index u, those of V's at v.
+pub fn two_caps(tab: &[u8; 416], u: usize, v: usize, s: Four) -> [u8; 16]
+    requires { ⌜ now tab ≡ tables ⌝ }
+    requires { ⌜ (u < 52) × (v < 52) ⌝ }
+    ensures { λ r. ⌜ r ≡ twoEach (capRow eight u) (capRow eight v) s ⌝ }
+{
+    let a = slot(s.a);
+    let b = slot(s.b);
+    let c = slot(s.c);
+    let d = slot(s.d);
+    spread(
+        cap_at(tab, u, a),
+        cap_at(tab, u, b),
+        cap_at(tab, u, c),
+        cap_at(tab, u, d),
+        cap_at(tab, v, a),
+        cap_at(tab, v, b),
+        cap_at(tab, v, c),
+        cap_at(tab, v, d),
+    )
+}
+
 // x for U's chroma lines and y for V's.
 pub fn eight_each(x: u8, y: u8) -> [u8; 16]
     ensures { λ r. ⌜ r ≡ eightEach x y ⌝ }
@@ -86,32 +110,33 @@ pub fn eight_each(x: u8, y: u8) -> [u8; 16]
     spread(x, x, x, x, y, y, y, y)
 }
 
-// Filtered in the pass of strengths 1 to 3.
-fn is_weak(s: u8) -> bool
-    ensures { λ r. ⌜ r ≡ isWeak s ⌝ }
+// The four strengths as one number: a test of it is one instruction, where four tests are made a vector.
+fn word(s: Four) -> u32
+    ensures { λ r. ⌜ r ≡ wordOf s ⌝ }
 {
-    (0 < s) & (s < 4)
+    s.a as u32 + 256 * (s.b as u32 + 256 * (s.c as u32 + 256 * (s.d as u32)))
 }
 
-// Some line has a strength of 1 to 3.
+// Some line may have a strength of 1 to 3: not all have 4, as at the border of an intra macroblock. Four 4s
+// are 67372036.
 pub fn any_weak(s: Four) -> bool
-    ensures { λ r. ⌜ r ≡ any isWeak s ⌝ }
+    ensures { λ r. ⌜ (r ≡ false → any isWeak s ≡ false) ⌝ }
 {
-    is_weak(s.a) | is_weak(s.b) | is_weak(s.c) | is_weak(s.d)
+    word(s) != 67372036
 }
 
-// Some line has a strength of 4.
+// Some line has a strength of 4: it has a bit that 0 to 3 have not.
 pub fn any_strong(s: Four) -> bool
-    ensures { λ r. ⌜ r ≡ any isStrong s ⌝ }
+    ensures { λ r. ⌜ (r ≡ false → any isStrong s ≡ false) ⌝ }
 {
-    (3 < s.a) | (3 < s.b) | (3 < s.c) | (3 < s.d)
+    3 < (s.a | s.b | s.c | s.d)
 }
 
 // Every line has the strength 0.
 fn no_strength(s: Four) -> bool
     ensures { λ r. ⌜ r ≡ noStrength s ⌝ }
 {
-    (s.a == 0) & (s.b == 0) & (s.c == 0) & (s.d == 0)
+    word(s) == 0
 }
 
 // No line of the edge can change.

@@ -4,6 +4,7 @@ ghost use mathlib.Core.Path.{_≡_};
 ghost use Prim.Native.Nat.{_+_, _*_, _<_};
 ghost use lib.ListN.{length};
 ghost use Rattle.lines.specs.Depth.{eight};
+ghost use Rattle.lines.specs.Inner.{tables};
 ghost use Rattle.batches.specs.Lines.{Straight, longLines};
 ghost use Rattle.batches.specs.Moves.{taken, stored};
 use crate::lanes::Four;
@@ -41,7 +42,17 @@ fn store(p: &mut [u8], at: usize, along: usize, step: usize, t: [u8; 128])
 
 // The lines one after the other, each at the strength of its segment. Where none can change, no sample is
 // read.
-pub fn luma_lines(plane: &mut [u8], at: usize, along: usize, step: usize, s: Four, l: Thresholds)
+pub fn luma_lines(
+    plane: &mut [u8],
+    at: usize,
+    along: usize,
+    step: usize,
+    tab: &[u8; 416],
+    s: Four,
+    l: Thresholds,
+)
+    requires { ⌜ now tab ≡ tables ⌝ }
+    requires { ⌜ l .index < 52 ⌝ }
     requires { ⌜ at + 15 * along + 7 * step < length (now plane) ⌝ }
     requires { ⌜ Straight 16 along step ⌝ }
     ensures { λ _. ⌜ now (plane .exit) ≡ longLines eight s l at along step (now (plane .entry)) ⌝ }
@@ -50,6 +61,6 @@ pub fn luma_lines(plane: &mut [u8], at: usize, along: usize, step: usize, s: Fou
         return;
     }
     let t = take(plane, at, along, step);
-    let r = luma_batch(t, s, l);
+    let r = luma_batch(t, tab, s, l);
     store(plane, at, along, step, r);
 }

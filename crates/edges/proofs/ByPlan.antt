@@ -1,6 +1,6 @@
 -- A macroblock's three planes filtered by its plan are the definition's, for whatever is held and wherever
 -- the picture lies. Assumes nothing.
-use mathlib.Core.Path.{_≡_, sym, subst, _∙_}
+use mathlib.Core.Path.{_≡_, refl, sym, subst, _∙_}
 use mathlib.Core.Bool.{true, _&&_}
 use Prim.Native.Nat.{ℕ, _+_, _*_, _<_, _≤_}
 use native.Mathlib.Nat.{mul-le-mul-left, mul-le-mul-right}
@@ -10,15 +10,13 @@ use lib.Dec.{ltb}
 use lib.IntN.{ℤ}
 use Rattle.laws.specs.Places.{Plane}
 use Rattle.laws.proofs.Bools.{and-true}
-use Rattle.lines.specs.Thresholds.{average, chromaQp}
 use Rattle.edges.specs.Inner.{InPlane}
 use Rattle.edges.specs.Laid.{baseOf, farOf, originIn, lumaIn, chromaIn, laidMb}
 use Rattle.edges.specs.Levels.{chromaLevels, planOf, lumaBy, chromaBy}
-use Rattle.edges.specs.Macroblock.{Settings, lumaOn, outerOr, lumaBoth, chromaBoth}
+use Rattle.edges.specs.Macroblock.{Settings}
 use Rattle.edges.specs.Picture.{planes, Held, settingsAt}
 use Rattle.edges.specs.declared.settings.Layout.{Layout}
 use Rattle.edges.specs.declared.settings.Plan.{Plan}
-use Rattle.edges.proofs.RulesByThresholds.{luma-by, chroma-by}
 
 module _ (g : Held) (l : Layout) (x y : ℕ) where
   abbrev s : Settings
@@ -29,22 +27,13 @@ module _ (g : Held) (l : Layout) (x y : ℕ) where
 
   luma-planned : (t : Plane) → lumaBy (g .depth) (s .strengths) (p .on) (p .luma) (p .levels .luma) t ≡ lumaIn g (baseOf l (16 * g .w)) (farOf l (16 * g .w)) x y t
   unfolding lumaIn
-  luma-planned t =
-      let by = luma-by (g .depth) in
-      λ i.
-      lumaBoth (by (average (s .qpLeft) (s .qp)) (s .a) (s .b) i) (by (average (s .qpAbove) (s .qp)) (s .a) (s .b) i) (by (s .qp) (s .a) (s .b) i)
-      (lumaOn (s .left) (s .inner) (s .t8)) (lumaOn (s .top) (s .inner) (s .t8)) (s .strengths) (p .luma .origin) (p .luma .stride) t
+  luma-planned t = refl
 
   chroma-planned : (offset : ℤ) (t : Plane)
       → chromaBy (g .depth) (s .strengths) (p .on) (p .chroma) (chromaLevels (g .depth) (s .qp) (s .qpLeft) (s .qpAbove) (s .a) (s .b) offset) t
       ≡ chromaIn g (baseOf l (8 * g .w)) (farOf l (8 * g .w)) offset x y t
   unfolding chromaIn
-  chroma-planned offset t =
-      let by = chroma-by (g .depth) in
-      let qp = chromaQp (g .depth) offset in
-      λ i.
-      chromaBoth (by (average (qp (s .qpLeft)) (qp (s .qp))) (s .a) (s .b) i) (by (average (qp (s .qpAbove)) (qp (s .qp))) (s .a) (s .b) i) (by (qp (s .qp)) (s .a) (s .b) i)
-      (outerOr (s .left) (s .inner)) (outerOr (s .top) (s .inner)) (s .strengths) (p .chroma .origin) (p .chroma .stride) t
+  chroma-planned offset t = refl
 
   -- the three planes, by a plan that a call gave
   pub planned : (luma u v : Plane) {luma₁ u₁ v₁ : Plane} (q : Plan) → q ≡ planOf g l x y → luma₁ ≡ lumaBy (g .depth) (s .strengths) (q .on) (q .luma) (q .levels .luma) luma

@@ -1,5 +1,5 @@
 // What a macroblock is filtered with, by value. One function computes all of it, before a sample is touched:
-// which edges are filtered, where the macroblock lies, by which thresholds.
+// which edges are filtered, where the macroblock lies, by which levels.
 ghost use mathlib.Core.Path.{_≡_};
 ghost use mathlib.Core.Bool.{true, false, _&&_};
 ghost use Prim.Native.Nat.{ℕ, _+_, _*_, _<_, _≤_};
@@ -67,8 +67,8 @@ fn qp_before(qps: &[u8], there: bool, i: usize, d: usize) -> i16
     qp_of(qps[i])
 }
 
-// The thresholds of macroblock (x, row), in a picture w macroblocks wide.
-fn levels_at(t: &[u8; 282], w: usize, x: usize, row: usize, qps: &[u8], o: Offsets) -> Levels
+// The levels of macroblock (x, row), in a picture w macroblocks wide.
+fn levels_at(t: &[u8; 416], w: usize, x: usize, row: usize, qps: &[u8], o: Offsets) -> Levels
     requires { ⌜ now t ≡ tables ⌝ }
     requires { ⌜ (x < w) × (row * w + w ≤ length (now qps)) ⌝ }
     ensures { λ r. ⌜ r ≡ levelsOf eight (pos (entries (now (qps .entry)) (row * w + x))) (pos (entries (now (qps .entry)) (beforeOf (ltb 0 x) (row * w + x) 1))) (pos (entries (now (qps .entry)) (beforeOf (ltb 0 row) (row * w + x) w))) (o .a) (o .b) (o .«chroma_u») (o .«chroma_v») ⌝ }
@@ -118,7 +118,7 @@ fn switches_at(on: EdgesOn, x: usize, row: usize, t8: bool) -> Switches
 
 // All of it. The macroblock's luma places fit a usize.
 pub fn plan_at(
-    t: &[u8; 282],
+    t: &[u8; 416],
     part: Part,
     w: usize,
     x: usize,

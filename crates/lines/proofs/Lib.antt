@@ -1,6 +1,7 @@
 pub mod AnyLine
 pub mod Cases
 pub mod Examples
+pub mod Flags
 pub mod HowFar
 pub mod Refused
 pub mod Strengths

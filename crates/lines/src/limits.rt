@@ -11,7 +11,7 @@ use crate::tables::beta_at;
 use crate::tables::qpc_at;
 use crate::tables::tc0_at;
 
-// alpha, beta and tC0 at strengths 1, 2 and 3; or no line of the edge can change.
+// alpha, beta and tC0 at strengths 1, 2 and 3, and the index of their row; or no line of the edge can change.
 pub enum Limits {
     Filtered {
         alpha: u8,
@@ -19,6 +19,7 @@ pub enum Limits {
         tc1: u8,
         tc2: u8,
         tc3: u8,
+        index: usize,
     },
     Nothing,
 }
@@ -46,20 +47,17 @@ pub fn index(qp: i32, offset: i32) -> usize
 }
 
 // QPC of a macroblock: its QP and the chroma offset, clamped and mapped.
-pub fn chroma_qp(t: &[u8; 282], qp: i16, offset: i32) -> i16
+pub fn chroma_qp(t: &[u8; 416], qp: i16, offset: i32) -> i16
     requires { ⌜ now t ≡ tables ⌝ }
     ensures { λ r. ⌜ r ≡ chromaQp eight offset qp ⌝ }
 {
     let i = index(qp as i32, offset);
-    if i < 30 {
-        return i as i16;
-    }
     let mapped = qpc_at(t, i);
     mapped as i16
 }
 
 // What an edge of the average qp is filtered with.
-pub fn thresholds(t: &[u8; 282], qp: i32, offset_a: i32, offset_b: i32) -> Limits
+pub fn thresholds(t: &[u8; 416], qp: i32, offset_a: i32, offset_b: i32) -> Limits
     requires { ⌜ now t ≡ tables ⌝ }
     ensures { λ r. ⌜ r ≡ thresholdsOf eight qp «offset_a» «offset_b» ⌝ }
 {
@@ -79,5 +77,6 @@ pub fn thresholds(t: &[u8; 282], qp: i32, offset_a: i32, offset_b: i32) -> Limit
         tc1: tc0_at(t, ia, 0),
         tc2: tc0_at(t, ia, 1),
         tc3: tc0_at(t, ia, 2),
+        index: ia,
     }
 }

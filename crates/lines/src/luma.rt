@@ -1,6 +1,6 @@
 // A luma line on values, p3 p2 p1 p0 | q0 q1 q2 q3: what becomes of it.
 ghost use mathlib.Core.Path.{_≡_};
-ghost use Prim.Native.Nat.{_+_, _*_, _/_};
+ghost use mathlib.Core.Bool.{true};
 ghost use Rattle.lines.specs.Depth.{eight};
 ghost use Rattle.lines.specs.Luma.{nudgeOf, innerOf, lumaNormal, strongSide, lumaStrong, normalLine, strongLine};
 use crate::shared::clip3;
@@ -78,23 +78,16 @@ pub fn filter_normal(beta: u8, tc0: u8, l: Line) -> Six
     }
 }
 
-// The long means of strength 4, for x0, x1 and x2.
-pub fn mean0(x2: u8, x1: u8, x0: u8, y0: u8, y1: u8) -> u8
-    ensures { λ r. ⌜ r ≡ (x2 + 2 * x1 + 2 * x0 + 2 * y0 + y1 + 4) / 8 ⌝ }
+// The three long means of strength 4, over one sum.
+pub fn long_means(x3: u8, x2: u8, x1: u8, x0: u8, y0: u8, y1: u8) -> Side
+    ensures { λ r. ⌜ r ≡ strongSide true x3 x2 x1 x0 y0 y1 ⌝ }
 {
-    ((x2 as u16 + 2 * (x1 as u16) + 2 * (x0 as u16) + 2 * (y0 as u16) + y1 as u16 + 4) >> 3) as u8
-}
-
-pub fn mean1(x2: u8, x1: u8, x0: u8, y0: u8) -> u8
-    ensures { λ r. ⌜ r ≡ (x2 + x1 + x0 + y0 + 2) / 4 ⌝ }
-{
-    ((x2 as u16 + x1 as u16 + x0 as u16 + y0 as u16 + 2) >> 2) as u8
-}
-
-pub fn mean2(x3: u8, x2: u8, x1: u8, x0: u8, y0: u8) -> u8
-    ensures { λ r. ⌜ r ≡ (2 * x3 + 3 * x2 + x1 + x0 + y0 + 4) / 8 ⌝ }
-{
-    ((2 * (x3 as u16) + 3 * (x2 as u16) + x1 as u16 + x0 as u16 + y0 as u16 + 4) >> 3) as u8
+    let sum = x2 as u16 + x1 as u16 + x0 as u16 + y0 as u16;
+    Side {
+        x2: ((2 * (x3 as u16 + x2 as u16) + sum + 4) >> 3) as u8,
+        x1: ((sum + 2) >> 2) as u8,
+        x0: ((2 * sum + y1 as u16 - x2 as u16 + 4) >> 3) as u8,
+    }
 }
 
 // One side at strength 4: x are its samples and y the other side's.
@@ -102,11 +95,7 @@ pub fn strong_side(strong: bool, x3: u8, x2: u8, x1: u8, x0: u8, y0: u8, y1: u8)
     ensures { λ r. ⌜ r ≡ strongSide strong x3 x2 x1 x0 y0 y1 ⌝ }
 {
     if strong {
-        return Side {
-            x2: mean2(x3, x2, x1, x0, y0),
-            x1: mean1(x2, x1, x0, y0),
-            x0: mean0(x2, x1, x0, y0, y1),
-        };
+        return long_means(x3, x2, x1, x0, y0, y1);
     }
     Side {
         x2,

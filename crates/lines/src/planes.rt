@@ -16,7 +16,7 @@ use crate::luma::Six;
 use crate::shared::Two;
 
 // The eight samples of a luma line.
-fn get_line(plane: &[u8], at: usize, step: usize) -> Line
+pub fn get_line(plane: &[u8], at: usize, step: usize) -> Line
     requires { ⌜ at + 7 * step < length (now plane) ⌝ }
     ensures { λ r. ⌜ r ≡ toLine (gets (places at step 8) (now (plane .entry))) ⌝ }
 {
@@ -40,7 +40,7 @@ fn get_line(plane: &[u8], at: usize, step: usize) -> Line
 }
 
 // The four samples of a chroma line.
-fn get_short(plane: &[u8], at: usize, step: usize) -> Short
+pub fn get_short(plane: &[u8], at: usize, step: usize) -> Short
     requires { ⌜ at + 3 * step < length (now plane) ⌝ }
     ensures { λ r. ⌜ r ≡ toShort (gets (places at step 4) (now (plane .entry))) ⌝ }
 {
@@ -56,7 +56,7 @@ fn get_short(plane: &[u8], at: usize, step: usize) -> Short
 }
 
 // The six samples between the outermost.
-fn put_six(plane: &mut [u8], at: usize, step: usize, r: Six)
+pub fn put_six(plane: &mut [u8], at: usize, step: usize, r: Six)
     requires { ⌜ at + 5 * step < length (now plane) ⌝ }
     ensures { λ _. ⌜ now (plane .exit) ≡ puts (places at step 6) (fromSix r) (now (plane .entry)) ⌝ }
 {
@@ -74,7 +74,7 @@ fn put_six(plane: &mut [u8], at: usize, step: usize, r: Six)
 }
 
 // The two samples between the outermost.
-fn put_two(plane: &mut [u8], at: usize, step: usize, r: Two)
+pub fn put_two(plane: &mut [u8], at: usize, step: usize, r: Two)
     requires { ⌜ at + step < length (now plane) ⌝ }
     ensures { λ _. ⌜ now (plane .exit) ≡ puts (places at step 2) (fromTwo r) (now (plane .entry)) ⌝ }
 {
@@ -84,7 +84,7 @@ fn put_two(plane: &mut [u8], at: usize, step: usize, r: Two)
 }
 
 // Luma at strengths 1 to 3.
-pub fn luma_normal(plane: &mut [u8], at: usize, step: usize, alpha: u8, beta: u8, tc0: u8)
+fn luma_normal(plane: &mut [u8], at: usize, step: usize, alpha: u8, beta: u8, tc0: u8)
     requires { ⌜ at + 7 * step < length (now plane) ⌝ }
     ensures { λ _. ⌜ now (plane .exit) ≡ lumaAt (normalLine eight alpha beta tc0) at step (now (plane .entry)) ⌝ }
 {
@@ -130,7 +130,7 @@ pub fn filter_luma_line(
 }
 
 // Chroma at strengths 1 to 3.
-pub fn chroma_normal(plane: &mut [u8], at: usize, step: usize, alpha: u8, beta: u8, tc0: u8)
+fn chroma_normal(plane: &mut [u8], at: usize, step: usize, alpha: u8, beta: u8, tc0: u8)
     requires { ⌜ at + 3 * step < length (now plane) ⌝ }
     ensures { λ _. ⌜ now (plane .exit) ≡ chromaAt (normalShort eight alpha beta tc0) at step (now (plane .entry)) ⌝ }
 {

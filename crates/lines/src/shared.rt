@@ -1,7 +1,8 @@
-// What luma and chroma lines share. Samples are u8 and sums i16, and tests are joined by `&`, so that a loop
-// over 16 lines becomes vector code.
+// What luma and chroma lines share. delta is computed on signed numbers, as the standard has it; a batch of
+// lines has it from `narrow`. Tests and means are in u8 and u16 and joined by `&`, so that a loop over 16
+// lines becomes vector code.
 ghost use mathlib.Core.Path.{_≡_};
-ghost use Prim.Native.Nat.{_+_, _*_, _/_};
+ghost use Prim.Native.Nat.{_+_, _*_, _/_, _%_};
 ghost use lib.Dec.{ltb};
 ghost use lib.IntN.{pos, _+ℤ_, _-ℤ_};
 ghost use Rattle.laws.specs.Clip.{clip3, clip1, dist};
@@ -73,9 +74,30 @@ pub fn moved(tc0: u8, more: u8, p1: u8, p0: u8, q0: u8, q1: u8) -> Two
     }
 }
 
+// Half of a + b, rounded up: one instruction on sixteen of them.
+pub fn half_up(a: u8, b: u8) -> u8
+    ensures { λ r. ⌜ r ≡ (a + b + 1) / 2 ⌝ }
+{
+    ((a as u16 + b as u16 + 1) >> 1) as u8
+}
+
+// 1 where a + b is odd.
+pub fn odd(a: u8, b: u8) -> u8
+    ensures { λ r. ⌜ r ≡ (a + b) % 2 ⌝ }
+{
+    (a % 2 + b % 2) % 2
+}
+
+// Half of a + b, rounded down.
+pub fn half_down(a: u8, b: u8) -> u8
+    ensures { λ r. ⌜ r ≡ (a + b) / 2 ⌝ }
+{
+    half_up(a, b) - odd(a, b)
+}
+
 // One side's sample at the edge by the short mean of strength 4.
 pub fn mean(x1: u8, x0: u8, y1: u8) -> u8
     ensures { λ r. ⌜ r ≡ (2 * x1 + x0 + y1 + 2) / 4 ⌝ }
 {
-    ((2 * (x1 as u16) + x0 as u16 + y1 as u16 + 2) >> 2) as u8
+    half_up(x1, half_down(x0, y1))
 }

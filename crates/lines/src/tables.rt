@@ -1,12 +1,16 @@
-// The tables, end to end in one array: alpha at 0, beta at 52, tC0 at 104, QPC at 260. A caller makes it once
-// and lends it down, since the compiler builds a constant array anew wherever it is used.
+// The tables, end to end in one array: alpha at 0, beta at 52, caps at 104, QPC at 364. A cap is tC0 + 1;
+// an index has five, for strengths 0 to 4, of which those of 0 and 4 are 0. A caller makes the array once and
+// lends it down, since the compiler builds a constant array anew wherever it is used.
 ghost use mathlib.Core.Path.{_≡_};
-ghost use Prim.Native.Nat.{_<_, _-_, _≤_};
+ghost use Prim.Native.Nat.{_<_};
+ghost use lib.IntN.{pos};
 ghost use lib.ListN.{getD};
-ghost use Rattle.lines.specs.Tables.{alphaAt, betaAt, tc0At, qpcs};
-ghost use Rattle.lines.specs.Inner.{tables};
+ghost use Rattle.lines.specs.Depth.{eight};
+ghost use Rattle.lines.specs.Tables.{alphaAt, betaAt, tc0At};
+ghost use Rattle.lines.specs.Thresholds.{qpcOf};
+ghost use Rattle.lines.specs.Inner.{tables, capRow};
 
-const TABLES: [u8; 282] = [
+const TABLES: [u8; 416] = [
     0,
     0,
     0,
@@ -112,161 +116,295 @@ const TABLES: [u8; 282] = [
     18,
     18,
     0,
-    0,
-    0,
-    0,
-    0,
-    0,
-    0,
-    0,
-    0,
-    0,
-    0,
-    0,
-    0,
-    0,
-    0,
-    0,
-    0,
-    0,
-    0,
-    0,
-    0,
-    0,
-    0,
-    0,
-    0,
-    0,
-    0,
-    0,
-    0,
-    0,
-    0,
-    0,
-    0,
-    0,
-    0,
-    0,
-    0,
-    0,
-    0,
-    0,
-    0,
-    0,
-    0,
-    0,
-    0,
-    0,
-    0,
-    0,
-    0,
-    0,
-    0,
-    0,
-    0,
+    1,
+    1,
     1,
     0,
     0,
     1,
-    0,
-    0,
-    1,
-    0,
-    0,
-    1,
-    0,
     1,
     1,
+    0,
     0,
     1,
     1,
     1,
+    0,
+    0,
     1,
     1,
     1,
+    0,
+    0,
     1,
     1,
     1,
+    0,
+    0,
     1,
     1,
     1,
+    0,
+    0,
     1,
     1,
     1,
-    1,
-    2,
-    1,
-    1,
-    2,
+    0,
+    0,
     1,
     1,
-    2,
+    1,
+    0,
+    0,
+    1,
+    1,
+    1,
+    0,
+    0,
+    1,
+    1,
+    1,
+    0,
+    0,
+    1,
+    1,
+    1,
+    0,
+    0,
+    1,
+    1,
+    1,
+    0,
+    0,
+    1,
+    1,
+    1,
+    0,
+    0,
+    1,
+    1,
+    1,
+    0,
+    0,
+    1,
+    1,
+    1,
+    0,
+    0,
+    1,
+    1,
+    1,
+    0,
+    0,
+    1,
+    1,
+    1,
+    0,
+    0,
     1,
     1,
     2,
+    0,
+    0,
     1,
+    1,
+    2,
+    0,
+    0,
+    1,
+    1,
+    2,
+    0,
+    0,
+    1,
+    1,
+    2,
+    0,
+    0,
+    1,
+    2,
+    2,
+    0,
+    0,
+    1,
+    2,
+    2,
+    0,
+    0,
+    2,
+    2,
+    2,
+    0,
+    0,
+    2,
+    2,
+    2,
+    0,
+    0,
+    2,
+    2,
+    2,
+    0,
+    0,
+    2,
+    2,
+    2,
+    0,
+    0,
+    2,
     2,
     3,
-    1,
+    0,
+    0,
+    2,
     2,
     3,
+    0,
+    0,
     2,
     2,
     3,
+    0,
+    0,
     2,
     2,
+    3,
+    0,
+    0,
+    2,
+    3,
     4,
+    0,
+    0,
     2,
     3,
     4,
-    2,
+    0,
+    0,
+    3,
     3,
     4,
+    0,
+    0,
     3,
     3,
     5,
+    0,
+    0,
     3,
     4,
-    6,
+    5,
+    0,
+    0,
     3,
     4,
+    5,
+    0,
+    0,
+    4,
+    4,
     6,
+    0,
+    0,
     4,
     5,
     7,
+    0,
+    0,
     4,
     5,
+    7,
+    0,
+    0,
+    5,
+    6,
     8,
-    4,
+    0,
+    0,
+    5,
     6,
     9,
+    0,
+    0,
     5,
     7,
     10,
+    0,
+    0,
     6,
     8,
     11,
-    6,
-    8,
-    13,
+    0,
+    0,
     7,
-    10,
-    14,
-    8,
-    11,
-    16,
     9,
     12,
-    18,
-    10,
-    13,
-    20,
+    0,
+    0,
+    7,
+    9,
+    14,
+    0,
+    0,
+    8,
     11,
     15,
-    23,
-    13,
+    0,
+    0,
+    9,
+    12,
     17,
+    0,
+    0,
+    10,
+    13,
+    19,
+    0,
+    0,
+    11,
+    14,
+    21,
+    0,
+    0,
+    12,
+    16,
+    24,
+    0,
+    0,
+    14,
+    18,
+    26,
+    0,
+    0,
+    1,
+    2,
+    3,
+    4,
+    5,
+    6,
+    7,
+    8,
+    9,
+    10,
+    11,
+    12,
+    13,
+    14,
+    15,
+    16,
+    17,
+    18,
+    19,
+    20,
+    21,
+    22,
+    23,
+    24,
     25,
+    26,
+    27,
+    28,
+    29,
     29,
     30,
     31,
@@ -291,24 +429,24 @@ const TABLES: [u8; 282] = [
     39,
 ];
 
-// All four, which a public call makes once and lends down.
-pub fn all() -> [u8; 282]
+// All four.
+pub fn all() -> [u8; 416]
     ensures { λ r. ⌜ r ≡ tables ⌝ }
 {
     TABLES
 }
 
-// One number of them, whatever i is below 282.
-pub fn entry(t: &[u8; 282], i: usize) -> u8
+// One number of them, whatever i is below 416.
+pub fn entry(t: &[u8; 416], i: usize) -> u8
     requires { ⌜ now t ≡ tables ⌝ }
-    requires { ⌜ i < 282 ⌝ }
+    requires { ⌜ i < 416 ⌝ }
     ensures { λ r. ⌜ r ≡ getD tables i 0 ⌝ }
 {
     t[i]
 }
 
 // alpha' and beta' of an index.
-pub fn alpha_at(t: &[u8; 282], i: usize) -> u8
+pub fn alpha_at(t: &[u8; 416], i: usize) -> u8
     requires { ⌜ now t ≡ tables ⌝ }
     requires { ⌜ i < 52 ⌝ }
     ensures { λ r. ⌜ r ≡ alphaAt i ⌝ }
@@ -316,7 +454,7 @@ pub fn alpha_at(t: &[u8; 282], i: usize) -> u8
     entry(t, i)
 }
 
-pub fn beta_at(t: &[u8; 282], i: usize) -> u8
+pub fn beta_at(t: &[u8; 416], i: usize) -> u8
     requires { ⌜ now t ≡ tables ⌝ }
     requires { ⌜ i < 52 ⌝ }
     ensures { λ r. ⌜ r ≡ betaAt i ⌝ }
@@ -324,21 +462,31 @@ pub fn beta_at(t: &[u8; 282], i: usize) -> u8
     entry(t, 52 + i)
 }
 
+// The cap of a line at index i, by its strength.
+pub fn cap_at(t: &[u8; 416], i: usize, s: usize) -> u8
+    requires { ⌜ now t ≡ tables ⌝ }
+    requires { ⌜ i < 52 ⌝ }
+    requires { ⌜ s < 5 ⌝ }
+    ensures { λ r. ⌜ r ≡ getD (capRow eight i) s 0 ⌝ }
+{
+    entry(t, 104 + (5 * i + s))
+}
+
 // tC0 for bS = s + 1.
-pub fn tc0_at(t: &[u8; 282], i: usize, s: usize) -> u8
+pub fn tc0_at(t: &[u8; 416], i: usize, s: usize) -> u8
     requires { ⌜ now t ≡ tables ⌝ }
     requires { ⌜ i < 52 ⌝ }
     requires { ⌜ s < 3 ⌝ }
     ensures { λ r. ⌜ r ≡ tc0At i s ⌝ }
 {
-    entry(t, 104 + (3 * i + s))
+    cap_at(t, i, s + 1) - 1
 }
 
-// QPC of qPI = i, from 30 on.
-pub fn qpc_at(t: &[u8; 282], i: usize) -> u8
+// QPC of qPI = i.
+pub fn qpc_at(t: &[u8; 416], i: usize) -> u8
     requires { ⌜ now t ≡ tables ⌝ }
-    requires { ⌜ (30 ≤ i) × (i < 52) ⌝ }
-    ensures { λ r. ⌜ r ≡ getD qpcs (i - 30) 0 ⌝ }
+    requires { ⌜ i < 52 ⌝ }
+    ensures { λ r. ⌜ pos r ≡ qpcOf (pos i) ⌝ }
 {
-    entry(t, 260 + (i - 30))
+    entry(t, 364 + i)
 }

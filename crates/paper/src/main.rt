@@ -28,6 +28,7 @@ fn levels(name: &[u8], qp: i32, offset: i32) {
         tc1,
         tc2,
         tc3,
+        index,
     } = limits
     else {
         text(b" nothing to do\n");

@@ -7,7 +7,6 @@ use crate::row_checks::refuse_rows;
 use edges::Offsets;
 use edges::picture::every_edge;
 use edges::picture::rows;
-use lines::tables::all;
 use sizes::Part;
 use sizes::Size;
 use slices::rules::bad_offsets;
@@ -45,9 +44,8 @@ pub fn filter_rows(
     if n != 0 {
         return n;
     }
-    let t = all();
     let on = every_edge();
-    rows(luma, u, v, &t, part, size, a, b, qps, t8s, strengths, o, on);
+    rows(luma, u, v, part, size, a, b, qps, t8s, strengths, o, on);
     0
 }
 

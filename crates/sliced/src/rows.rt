@@ -6,7 +6,6 @@ ghost use Prim.Native.Nat.{ℕ, _+_, _*_, _≤_, _<_};
 ghost use lib.ListN.{length};
 ghost use Rattle.laws.specs.Loop.{span};
 ghost use Rattle.laws.specs.Refusal.{refusal};
-ghost use Rattle.lines.specs.Inner.{tables};
 ghost use Rattle.edges.specs.Alike.{heldAs};
 ghost use Rattle.edges.specs.Inner.{Room};
 ghost use Rattle.edges.specs.Laid.{layoutOf, laidMb};
@@ -25,7 +24,6 @@ use crate::tasks::Task;
 use crate::tasks::rows_task;
 use edges::Offsets;
 use edges::picture::macroblock;
-use lines::tables::all;
 use pictures::row_checks::qps_from;
 use pictures::row_checks::refuse_rows;
 use sizes::Part;
@@ -131,7 +129,6 @@ pub fn height_of(size: Size) -> usize
 fn filter_in_row(
     r: SliceRecord,
     o: Offsets,
-    t: &[u8; 282],
     part: Part,
     w: usize,
     row: usize,
@@ -145,13 +142,12 @@ fn filter_in_row(
     qps: &[u8],
     t8s: &[u8],
 )
-    requires { ⌜ now t ≡ tables ⌝ }
     requires { ⌜ (badParity part ≡ false) × (x0 ≤ x1) × (x1 ≤ w) × (row * w + w ≤ length (now numbers)) × Room (frameOfPart part (row * w + w)) (row * w + w) (length (now luma)) (length (now u)) (length (now v)) (length (now qps)) (length (now t8s)) (length (now strengths)) ⌝ }
     ensures { λ _. ⌜ planes (now (luma .exit)) (now (u .exit)) (now (v .exit)) ≡ span x0 x1 (λ x. laidMb (heldAs w (entries (now (strengths .entry))) (now (qps .entry)) (now (t8s .entry)) o (edgesBy r (now (numbers .entry)) w x row)) (layoutOf part) x row) (planes (now (luma .entry)) (now (u .entry)) (now (v .entry))) ⌝ }
 {
     for x in x0..x1 {
         let on = edges_by(r, numbers, w, x, row);
-        macroblock(luma, u, v, t, part, w, x, row, qps, t8s, strengths, o, on);
+        macroblock(luma, u, v, part, w, x, row, qps, t8s, strengths, o, on);
     }
 }
 
@@ -193,11 +189,9 @@ pub fn filter_stretch(
     let j = stretch_end(numbers, i, row_end(w, row, e));
     let x1 = x0 + (j - i);
     let o = offsets_with(r, c);
-    let t = all();
     filter_in_row(
         r,
         o,
-        &t,
         part,
         w,
         row,

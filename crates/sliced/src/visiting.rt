@@ -6,6 +6,7 @@ ghost use Rattle.edges.specs.Picture.{planes};
 ghost use Rattle.sizes.specs.Inner.{InPicture};
 ghost use Rattle.slices.specs.Inner.{edgesBy};
 ghost use Rattle.visits.specs.Checks.{badAround};
+ghost use Rattle.visits.specs.Inner.{sharedVisitChecks};
 ghost use Rattle.sliced.specs.Inner.{surveyChecks, visitChecksBy, VisitedBy};
 use crate::entries::bad_count;
 use crate::entries::bad_range;
@@ -13,6 +14,8 @@ use crate::entries::past_near;
 use crate::entries::refuse_numbers;
 use edges::EdgesOn;
 use edges::picture::every_edge;
+use pictures::checks::refuse_grids;
+use pictures::checks::refuse_picture;
 use sizes::Part;
 use sizes::Size;
 use slices::ChromaOffsets;
@@ -20,7 +23,7 @@ use slices::SliceRecord;
 use slices::Survey;
 use slices::rules::edges_by;
 use slices::rules::offsets_with;
-use visits::checks::refuse_early;
+use visits::checks::refuse_visit_entries;
 use visits::finishing::visit_with;
 
 // Checks 20 and 21, of a visit of (x, y).
@@ -29,6 +32,47 @@ fn refuse_visit_numbers(s: Survey, w: usize, x: usize, y: usize, numbers: &[u16]
     ensures { λ r. ⌜ r ≡ refusal (surveyChecks s (λ bad xs. badAround bad xs w x y) (now (numbers .entry))) ⌝ }
 {
     refuse_numbers(s, past_near(numbers, w, x, y, s.count))
+}
+
+// The checks that all visits share; luma, u, v are the lengths of the planes. `other`: the grid of numbers
+// has the wrong length; `six`: check 6 applies. `refuse_early` of `visits` makes the same groups: with one
+// caller each, the compiler puts each into it.
+fn refuse_shared(
+    part: Part,
+    size: Size,
+    x: usize,
+    y: usize,
+    other: bool,
+    six: bool,
+    luma: usize,
+    u: usize,
+    v: usize,
+    strengths: &[u8],
+    qps: &[u8],
+    t8s: &[u8],
+    marks: &[u8],
+) -> u32
+    ensures { λ r. ⌜ r ≡ refusal (sharedVisitChecks part size (x, y) other six luma u v (now (strengths .entry)) (now (qps .entry)) (now (t8s .entry)) (now (marks .entry))) ⌝ }
+{
+    let w = size.w;
+    let h = size.h;
+    let k = refuse_picture(part, size, (w <= x) | (h <= y), luma, u, v);
+    if k != 0 {
+        return k;
+    }
+    let n = w * h;
+    let m = refuse_grids(
+        n,
+        strengths.len(),
+        qps.len(),
+        t8s.len(),
+        other | (marks.len() != n),
+        six,
+    );
+    if m != 0 {
+        return m;
+    }
+    refuse_visit_entries(w, x, y, strengths, qps, t8s, marks)
 }
 
 // All checks before 13; luma, u, v are the lengths of the planes.
@@ -52,7 +96,7 @@ fn refuse_sliced_visit(
 {
     let other = bad_count(size, numbers.len());
     let six = bad_range(s, c);
-    let k = refuse_early(
+    let k = refuse_shared(
         part,
         size,
         x,

@@ -1,8 +1,8 @@
 -- What a visit knows once its checks of lengths have passed. Assumes nothing.
 use mathlib.Core.Path.{_≡_}
-use mathlib.Core.Bool.{Bool, false, not}
+use mathlib.Core.Bool.{Bool, false, not, _||_}
 use mathlib.Core.List.{List}
-use Prim.Native.Nat.{ℕ, _+_, _*_, _<_}
+use Prim.Native.Nat.{ℕ, _+_, _*_, _<_, _≤_}
 use native.Mathlib.Omega.{arith}
 use borrow.Author.Tests.{leb-false}
 use lib.Dec.{eqb, leb}
@@ -16,7 +16,7 @@ use Rattle.sizes.specs.Sizes.{outsideOf, frameOfPart}
 use Rattle.sizes.specs.declared.Part.{Part}
 use Rattle.slices.specs.Slicing.{badNumberCount}
 use Rattle.sizes.proofs.Sized.{frame-of-part-le}
-use Rattle.pictures.specs.Checks.{Lent}
+use Rattle.pictures.specs.Checks.{Lent, pictureChecks, gridChecks}
 use Rattle.pictures.proofs.Fitting.{Fitting, fitting}
 use Rattle.visits.specs.Visit.{At}
 use Rattle.visits.specs.Checks.{visitChecks}
@@ -56,6 +56,20 @@ module _ (part : Part) (d : Lent) (ly lu lv : ℕ) where
       cs : List (ℕ × Bool)
       cs = sharedVisitChecks part (d .size) r (k .other) (k .six) ly lu lv (d .strengths) (d .qps) (d .t8s) ms
 
+  -- by the first two groups of those
+  pub grouped-visit-fits : (lm : ℕ) (r : At) (other six : Bool) → refusal (pictureChecks part (d .size) (outsideOf (d .size) (r .0) (r .1)) ly lu lv) ≡ 0
+      → refusal (gridChecks (d .size .w * d .size .h) (length (d .strengths)) (length (d .qps)) (length (d .t8s)) (other || not (eqb lm (d .size .w * d .size .h))) six) ≡ 0
+      → VisitFits part d ly lu lv lm r
+  grouped-visit-fits lm r other six z e =
+      let four = or-false _ _ (passes 4 grids tt e) in
+      visit-fits lm r (fitting part d ly lu lv (passes 1 picture tt z) (passes 19 picture tt z) (passes 3 picture tt z) (four .0)) (passes 2 picture tt z) (or-false other _ (four .1) .1)
+    where
+      picture : List (ℕ × Bool)
+      picture = pictureChecks part (d .size) (outsideOf (d .size) (r .0) (r .1)) ly lu lv
+
+      grids : List (ℕ × Bool)
+      grids = gridChecks (d .size .w * d .size .h) (length (d .strengths)) (length (d .qps)) (length (d .t8s)) (other || not (eqb lm (d .size .w * d .size .h))) six
+
   module _ (lm : ℕ) (r : At) (g : VisitFits part d ly lu lv lm r) where
     pub index : r .1 * d .size .w + r .0 < d .size .w * d .size .h
     index = index-lt (d .size .w) (d .size .h) (r .0) (r .1) (g .column) (g .row)
@@ -65,6 +79,13 @@ module _ (part : Part) (d : Lent) (ly lu lv : ℕ) where
 
     pub in-largest : InPicture (d .size .w) (r .0) (r .1) 36864
     in-largest = record { column = g .column; index = omega (arith, index, g .fit .sides .most) }
+
+    -- what the third group asks
+    pub entries-lie : InPicture (d .size .w) (r .0) (r .1) lm × InPicture (d .size .w) (r .0) (r .1) (length (d .qps)) × InPicture (d .size .w) (r .0) (r .1) 36864 × (32 * (r .1 * d .size .w + r .0) + 32 ≤ length (d .strengths)) × (eqb (length (d .t8s)) 0 ≡ false → r .1 * d .size .w + r .0 < length (d .t8s))
+    entries-lie =
+        let i = index in
+        let f = g .fit in
+        (in-picture lm (g .marks), in-picture (length (d .qps)) (f .qps), in-largest, omega (arith, i, f .strengths), λ h. omega (arith, i, f .t8s h))
 
     -- what the filter asks
     pub room : Room (frameOfPart part (r .1 * d .size .w + d .size .w)) (r .1 * d .size .w + d .size .w) ly lu lv (length (d .qps)) (length (d .t8s)) (length (d .strengths))

@@ -37,7 +37,7 @@ fn bad_qps(qps: &[u8], w: usize, x: usize, y: usize) -> bool
 }
 
 // Checks 7 to 9, which read entries.
-fn refuse_visit_entries(
+pub fn refuse_visit_entries(
     w: usize,
     x: usize,
     y: usize,
@@ -64,14 +64,13 @@ fn refuse_visit_entries(
     0
 }
 
-// All of them but those of slices; luma, u, v are the lengths of the planes. `other`: a grid of slices has
-// the wrong length; `six`: check 6 applies.
+// All of them, of a visit without slices; luma, u, v are the lengths of the planes. `six`: check 6 applies.
+// A visit with slices makes the same groups in a function of its own (sliced/src/visiting).
 pub fn refuse_early(
     part: Part,
     size: Size,
     x: usize,
     y: usize,
-    other: bool,
     six: bool,
     luma: usize,
     u: usize,
@@ -81,7 +80,7 @@ pub fn refuse_early(
     t8s: &[u8],
     marks: &[u8],
 ) -> u32
-    ensures { λ r. ⌜ r ≡ refusal (sharedVisitChecks part size (x, y) other six luma u v (now (strengths .entry)) (now (qps .entry)) (now (t8s .entry)) (now (marks .entry))) ⌝ }
+    ensures { λ r. ⌜ r ≡ refusal (sharedVisitChecks part size (x, y) false six luma u v (now (strengths .entry)) (now (qps .entry)) (now (t8s .entry)) (now (marks .entry))) ⌝ }
 {
     let w = size.w;
     let h = size.h;
@@ -95,7 +94,7 @@ pub fn refuse_early(
         strengths.len(),
         qps.len(),
         t8s.len(),
-        other | (marks.len() != n),
+        marks.len() != n,
         six,
     );
     if m != 0 {

@@ -12,7 +12,6 @@ use crate::readiness::waits;
 use edges::EdgesOn;
 use edges::Offsets;
 use edges::picture::macroblock;
-use lines::tables::all;
 use sizes::Part;
 use sizes::Size;
 
@@ -49,8 +48,7 @@ pub fn visit_with(
     if waits(marks, w, x, y) {
         return 14;
     }
-    let t = all();
-    macroblock(luma, u, v, &t, part, w, x, y, qps, t8s, strengths, o, on);
+    macroblock(luma, u, v, part, w, x, y, qps, t8s, strengths, o, on);
     marks[i] = 1;
     0
 }

@@ -9,14 +9,14 @@ ghost use Rattle.visits.specs.Promise.{VisitOutcome, ReplayOutcome};
 use crate::checks::refuse_early;
 use crate::readiness::waits;
 use edges::Offsets;
+use edges::macroblock::all_zero;
 use edges::picture::every_edge;
-use edges::picture::macroblock;
-use lines::tables::all;
+use edges::picture::filter_edges;
 use sizes::Part;
 use sizes::Size;
 use slices::rules::bad_offsets;
 
-// Macroblock (x, y) filtered and marked, or a refusal.
+// Macroblock (x, y) filtered and marked, or a refusal. One whose strengths are all 0 is marked alone.
 pub fn visit(
     size: Size,
     part: Part,
@@ -38,7 +38,6 @@ pub fn visit(
         size,
         x,
         y,
-        false,
         bad_offsets(o),
         luma.len(),
         u.len(),
@@ -59,9 +58,12 @@ pub fn visit(
     if waits(marks, w, x, y) {
         return 14;
     }
-    let t = all();
+    if all_zero(strengths, 32 * i) {
+        marks[i] = 1;
+        return 0;
+    }
     let on = every_edge();
-    macroblock(luma, u, v, &t, part, w, x, y, qps, t8s, strengths, o, on);
+    filter_edges(luma, u, v, part, w, x, y, qps, t8s, strengths, o, on);
     marks[i] = 1;
     0
 }

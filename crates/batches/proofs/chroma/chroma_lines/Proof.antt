@@ -2,6 +2,7 @@
 -- nothing.
 use Prim.Native.Nat.{_+_, _-_, _≤_, _*_, _/_}
 use mathlib.Core.Path.{_≡_, sym, _∙_}
+use native.Mathlib.Nat.{mul-one}
 use native.Mathlib.Omega.{arith}
 use lib.ListN.{length, getD}
 use Rattle.laws.specs.Loop.{upTo}
@@ -10,15 +11,16 @@ use Rattle.lines.specs.Depth.{eight}
 use Rattle.lines.specs.Planes.{chromaAt}
 use Rattle.batches.specs.Lines.{chromaWith, shortLines}
 use Rattle.batches.proofs.EdgeLines.{short-still}
+use Rattle.batches.proofs.Shapes.{short-tc}
 use Rattle.batches.proofs.chroma.chroma_lines.Statement.{statement}
 use Rattle.batches.proofs.chroma.chroma_lines.Tie as tie
 
 abbrev Inv : tie.InvT-loop
-Inv plane₀ at along step l bs k₀ plane k =
+Inv plane₀ at along step tab l bs k₀ plane k =
     (k ≤ 8) × (length plane ≡ length plane₀) × (plane ≡ upTo k (λ j. chromaAt (chromaWith eight l (getD bs (j / 2) 0)) (at + j * along) step) plane₀)
 
 abbrev μ : tie.MeasureT-loop
-μ plane₀ at along step l bs k₀ plane k = 8 - k
+μ plane₀ at along step tab l bs k₀ plane k = 8 - k
 
 returns : tie.Need-returns Inv μ
 returns c =
@@ -31,8 +33,9 @@ bound c = mul-below _ 8 _ (omega arith)
 loop-again : tie.Need-loop-again Inv μ
 loop-again c =
     let f = c .before .before in
-    let i = f .before .before .before .before .loop .inv in
-    (omega arith, omega arith, upTo-more _ _ _ (i .2) (rw (f .before .tc0 .ensures) at (f .filter-chroma-line .ensures)))
+    let t = f .before .before in
+    let n = t .before .before .loop in
+    (omega arith, omega arith, upTo-more _ _ _ (n .inv .2) (f .filter-chroma-line .ensures ∙ short-tc eight _ _ _ _ _ (λ w. t .tc0 .ensures w ∙ sym (mul-one _)) _ _ _))
 
 returns-2 : tie.Need-returns-2 Inv μ
 unfolding shortLines
@@ -46,9 +49,9 @@ chroma-lines-spec =
     returns
     (λ c. search loops)
     (λ c. search loops)
-    (λ c. omega (arith, bound (c .before)))
-    (λ c. omega (arith, bound (c .before)))
     (λ c κs. search loops)
+    (λ c. omega (arith, bound (c .before .before)))
+    (λ c. omega (arith, bound (c .before .before)))
     (λ c κs. omega (arith, bound (c .before .before)))
     (λ c. search loops)
     (λ c. search loops)

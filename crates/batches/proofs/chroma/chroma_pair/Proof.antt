@@ -31,8 +31,8 @@ returns-2 c =
     let f = a .first in
     let g = a .second in
     let e = rw (t .take .ensures) at (b .chroma-batch .ensures) in (
-      rw e at (w .store .ensures .0) ∙ edges-u eight (f .s) (g .s) (f .u) (f .v) (g .u) (g .v) (a .at) (a .along) (a .step) (a .u .now) (a .v .now) (s .pre .1) (s .pre .0 .0),
-      rw e at (w .store .ensures .1) ∙ edges-v eight (f .s) (g .s) (f .u) (f .v) (g .u) (g .v) (a .at) (a .along) (a .step) (a .u .now) (a .v .now) (s .pre .1) (s .pre .0 .1),
+      rw e at (w .store .ensures .0) ∙ edges-u eight (f .s) (g .s) (f .u) (f .v) (g .u) (g .v) (a .at) (a .along) (a .step) (a .u .now) (a .v .now) (s .pre .1 .1 .1) (s .pre .1 .1 .0 .0),
+      rw e at (w .store .ensures .1) ∙ edges-v eight (f .s) (g .s) (f .u) (f .v) (g .u) (g .v) (a .at) (a .along) (a .step) (a .u .now) (a .v .now) (s .pre .1 .1 .1) (s .pre .1 .1 .0 .1),
     )
 
 pub chroma-pair-spec : {M : Type 1} → statement M

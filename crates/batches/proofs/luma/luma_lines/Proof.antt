@@ -20,7 +20,7 @@ returns-2 c =
     let s = t .before .before .before .before .before in
     let a = s .args in
     let e = rw (t .take .ensures) at (b .luma-batch .ensures) in
-    rw e at (w .store .ensures) ∙ long-edge eight (a .s) (a .l) (a .at) (a .along) (a .step) (a .plane .now) (s .pre .1) (s .pre .0)
+    rw e at (w .store .ensures) ∙ long-edge eight (a .s) (a .l) (a .at) (a .along) (a .step) (a .plane .now) (s .pre .1 .1 .1) (s .pre .1 .1 .0)
 
 pub luma-lines-spec : {M : Type 1} → statement M
 luma-lines-spec =

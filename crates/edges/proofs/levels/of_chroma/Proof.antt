@@ -31,7 +31,7 @@ returns : tie.Need-returns
 returns c =
     let k = c .before .before .before in
     let f = k .before .fits in
-    c .of-plane .ensures ∙ (λ i. planeLevels eight (qpc k i) (qpc-left (c .before .before) i) (qpc-above (c .before) i) (toZ-ofZ (f .a) i) (toZ-ofZ (f .b) i))
+    c .of-plane .ensures ∙ (λ i. planeLevels (qpc k i) (qpc-left (c .before .before) i) (qpc-above (c .before) i) (toZ-ofZ (f .a) i) (toZ-ofZ (f .b) i))
 
 pub of-chroma-spec : {M : Type 1} → statement M
 of-chroma-spec =

@@ -25,11 +25,11 @@ v-back : (c : tie.After-struct-told) → toZ w32 (ofZ w32 (c .before .args .o .�
 v-back c = result w32 (c .struct-told .given .1 .1 .1 .0 .1) refl
 
 -- ---- the planes
-luma : (c : tie.After-of-plane) → let s = c .before .before .before .before .before .args in c .of-plane .result ≡ planeLevels eight (s .qp) (s .qp-left) (s .qp-above) (s .o .a) (s .o .b)
+luma : (c : tie.After-of-plane) → let s = c .before .before .before .before .before .args in c .of-plane .result ≡ planeLevels (s .qp) (s .qp-left) (s .qp-above) (s .o .a) (s .o .b)
 luma c =
     let o = c .before .before .before .before in
     let f = o .before .fits in
-    c .of-plane .ensures ∙ (λ i. planeLevels eight (toZ-ofZ (f .qp) i) (toZ-ofZ (f .qp-left) i) (toZ-ofZ (f .qp-above) i) (a-back o i) (b-back o i))
+    c .of-plane .ensures ∙ (λ i. planeLevels (toZ-ofZ (f .qp) i) (toZ-ofZ (f .qp-left) i) (toZ-ofZ (f .qp-above) i) (a-back o i) (b-back o i))
 
 u : (c : tie.After-of-chroma) → let s = c .before .before .before .before .before .before .args in
     c .of-chroma .result ≡ chromaLevels eight (s .qp) (s .qp-left) (s .qp-above) (s .o .a) (s .o .b) (s .o .«chroma_u»)

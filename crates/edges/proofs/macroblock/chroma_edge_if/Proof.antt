@@ -5,10 +5,10 @@ use Rattle.edges.proofs.macroblock.chroma_edge_if.Statement.{statement}
 use Rattle.edges.proofs.macroblock.chroma_edge_if.Tie as tie
 
 sub-chroma-edge : tie.Need-sub-chroma-edge
-sub-chroma-edge c = c .before .before .before .before .pre .0 (c .before .if1 .taken)
+sub-chroma-edge c = c .before .before .before .before .pre .1 .0 (c .before .if1 .taken)
 
 chroma-edge-requires : tie.Need-chroma-edge-requires
-chroma-edge-requires c κs = let h = sub-chroma-edge c in omega arith
+chroma-edge-requires c κs = let h = sub-chroma-edge c in (c .before .before .before .before .pre .0, omega arith)
 
 returns : tie.Need-returns
 returns c = simp (c .before .before .before .before .if1 .taken) (c .before .before .chroma-edge .ensures)

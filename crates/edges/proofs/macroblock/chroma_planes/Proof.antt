@@ -11,14 +11,14 @@ use Rattle.edges.proofs.macroblock.chroma_planes.Tie as tie
 chroma-way-requires : tie.Need-chroma-way-requires
 chroma-way-requires c κs =
     let s = c .before .before .before .before .before .before .before .before .before in
-    let p = s .pre .0 in
-    ((p .left, omega (arith, p .ends), omega (arith, s .pre .1 .ends), omega (arith, s .pre .2)), vertical refl (p .wide))
+    let p = s .pre .1 .0 in
+    (s .pre .0, ((p .left, omega (arith, p .ends), omega (arith, s .pre .1 .1 .ends), omega (arith, s .pre .1 .2)), vertical refl (p .wide)))
 
 chroma-way-requires-2 : tie.Need-chroma-way-requires-2
 chroma-way-requires-2 c κs =
     let s = c .before .before .before .before .before .before .before .before .before .before .before .before .before .before .before .before in
-    let p = s .pre .0 in
-    ((p .top, omega (arith, p .ends), omega (arith, s .pre .1 .ends), omega (arith, s .pre .2)), horizontal refl (p .wide))
+    let p = s .pre .1 .0 in
+    (s .pre .0, ((p .top, omega (arith, p .ends), omega (arith, s .pre .1 .1 .ends), omega (arith, s .pre .1 .2)), horizontal refl (p .wide)))
 
 returns : tie.Need-returns
 returns c =

@@ -8,7 +8,10 @@ use Rattle.edges.proofs.macroblock.chroma_way.Statement.{statement}
 use Rattle.edges.proofs.macroblock.chroma_way.Tie as tie
 
 sub-at : tie.Need-sub-at
-sub-at c = let s = c .before .before .before .before in s .pre .0 .0 (and-true (s .args .edge0) (s .args .on .inner) (c .if1 .taken) .0)
+sub-at c = let s = c .before .before .before .before in s .pre .1 .0 .0 (and-true (s .args .edge0) (s .args .on .inner) (c .if1 .taken) .0)
+
+chroma-edges-requires : tie.Need-chroma-edges-requires
+chroma-edges-requires c κs = let s = c .before .before .before .before .before .before in (s .pre .0, ((omega arith, omega arith, omega arith), s .pre .1 .1))
 
 returns : tie.Need-returns
 returns c =
@@ -16,13 +19,22 @@ returns c =
     let i = w .before .before .before in
     let s = i .before .before .before .before in
     let a = s .args in
-    let h = s .pre .0 .0 (and-true (a .edge0) (a .on .inner) (i .if1 .taken) .0) in (
+    let h = s .pre .1 .0 .0 (and-true (a .edge0) (a .on .inner) (i .if1 .taken) .0) in (
       chroma-pair-on (entries (a .strengths .now)) (a .base) (a .origin) (a .along) (a .step) _ _ (a .edge0) (a .on .inner) (a .u .now) (i .if1 .taken) h (w .chroma-edges .ensures .0),
       chroma-pair-on (entries (a .strengths .now)) (a .base) (a .origin) (a .along) (a .step) _ _ (a .edge0) (a .on .inner) (a .v .now) (i .if1 .taken) h (w .chroma-edges .ensures .1),
     )
 
+chroma-edge-if-requires : tie.Need-chroma-edge-if-requires
+chroma-edge-if-requires c κs = let s = c .before .before .before .before .before .before .before .before .before in (s .pre .0, (s .pre .1 .0 .0, omega arith, omega arith))
+
 chroma-edge-if-requires-2 : tie.Need-chroma-edge-if-requires-2
-chroma-edge-if-requires-2 c κs = let s = c .before .before .before .before .before .before .before .before .before .before .before .before .before in (s .pre .0 .0, omega arith, omega arith)
+chroma-edge-if-requires-2 c κs = let s = c .before .before .before .before .before .before .before .before .before .before .before .before .before in (s .pre .0, (s .pre .1 .0 .0, omega arith, omega arith))
+
+chroma-edge-if-requires-3 : tie.Need-chroma-edge-if-requires-3
+chroma-edge-if-requires-3 c κs = let s = c .before .before .before .before .before .before .before .before .before .before .before .before .before .before .before .before .before in (s .pre .0, (λ h. omega arith, omega arith, omega arith))
+
+chroma-edge-if-requires-4 : tie.Need-chroma-edge-if-requires-4
+chroma-edge-if-requires-4 c κs = let s = c .before .before .before .before .before .before .before .before .before .before .before .before .before .before .before .before .before .before .before .before .before in (s .pre .0, (λ h. omega arith, omega arith, omega arith))
 
 returns-2 : tie.Need-returns-2
 returns-2 c =
@@ -41,17 +53,17 @@ chroma-way-spec =
     (tie.spec
     (λ c. search needs)
     sub-at
-    (λ c κs. search needs)
+    chroma-edges-requires
     (λ c. search needs)
     (λ c. search needs)
     returns
     (λ c. search needs)
     (λ c. search needs)
     (λ c. search needs)
-    (λ c κs. search needs)
+    chroma-edge-if-requires
     chroma-edge-if-requires-2
-    (λ c κs. search needs)
-    (λ c κs. search needs)
+    chroma-edge-if-requires-3
+    chroma-edge-if-requires-4
     (λ c. search needs)
     (λ c. search needs)
     returns-2)

@@ -11,14 +11,14 @@ use Rattle.edges.proofs.macroblock.luma_plane.Tie as tie
 luma-way-requires : tie.Need-luma-way-requires
 luma-way-requires c κs =
     let s = c .before .before .before .before .before in
-    let p = s .pre .0 in
-    ((p .left, omega (arith, p .ends), omega (arith, s .pre .1)), vertical refl (omega (arith, p .wide)))
+    let p = s .pre .1 .0 in
+    (s .pre .0, ((p .left, omega (arith, p .ends), omega (arith, s .pre .1 .1)), vertical refl (omega (arith, p .wide))))
 
 luma-way-requires-2 : tie.Need-luma-way-requires-2
 luma-way-requires-2 c κs =
     let s = c .before .before .before .before .before .before .before .before .before in
-    let p = s .pre .0 in
-    ((p .top, omega (arith, p .ends), omega (arith, s .pre .1)), horizontal refl (p .wide))
+    let p = s .pre .1 .0 in
+    (s .pre .0, ((p .top, omega (arith, p .ends), omega (arith, s .pre .1 .1)), horizontal refl (p .wide)))
 
 returns : tie.Need-returns
 returns c =

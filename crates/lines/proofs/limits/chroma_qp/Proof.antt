@@ -29,26 +29,12 @@ at c =
     let f = c .before .fits in
     c .index .ensures .0 ∙ (λ i. indexOf (cast w32 (int (f .qp)) tt .reads i) (toZ-ofZ (f .offset) i))
 
--- the two sides of the test
-below : (i : ℕ) → i < 30 → qpcOf (pos i) ≡ pos i
-below i h = simp (lt-ltb i 30 h)
-
-above : (i : ℕ) → 30 ≤ i → qpcOf (pos i) ≡ pos (getD qpcs (i - 30) 0)
-above i h = simp (le-ltb i 30 h)
-
 returns : tie.Need-returns
 returns c =
     let k = c .before in
-    nat-reads w16 (k .index .result) 51 (omega arith) tt
-    ∙ sym (by-index (k .before .args .offset) (k .before .args .qp) ∙ ap (λ (i : ℕ). qpcOf (pos i)) (sym (at k)) ∙ below (k .index .result) (omega arith))
-
-returns-2 : tie.Need-returns-2
-unfolding qpcs
-returns-2 c =
-    let k = c .before .before in
-    nat-reads w16 (c .qpc-at .result) 39 (rw (c .qpc-at .ensures) (at-most 39 qpcs tt (k .index .result - 30))) tt
-    ∙ ap pos (c .qpc-at .ensures)
-    ∙ sym (by-index (k .before .args .offset) (k .before .args .qp) ∙ ap (λ (i : ℕ). qpcOf (pos i)) (sym (at k)) ∙ above (k .index .result) (omega arith))
+    nat-reads w16 (c .qpc-at .result) 255 (omega arith) tt
+    ∙ c .qpc-at .ensures
+    ∙ sym (by-index (k .before .args .offset) (k .before .args .qp) ∙ ap (λ (i : ℕ). qpcOf (pos i)) (sym (at k)))
 
 pub chroma-qp-spec : {M : Type 1} → statement M
 chroma-qp-spec =
@@ -56,8 +42,6 @@ chroma-qp-spec =
     (tie.spec
     (λ c. cast-ok (int (c .fits .qp)) w32 tt)
     (λ c κs. search needs)
-    (λ c. search needs)
-    returns
     (λ c κs. search needs)
     (λ c. search needs)
-    returns-2)
+    returns)

@@ -50,7 +50,7 @@ returns-3 c =
     let k = c .before .before .before in
     let a = k .before .before .before .before in
     simp (ne-eqb _ 0 (some (k .before .before .before)), ne-eqb _ 0 (λ e. k .if2 .left (beta (k .before) ∙ e)))
-    (λ i. Filtered (alpha a i) (beta (k .before) i) (tc a 0 (c .before .before .tc0-at .ensures) i) (tc a 1 (c .before .tc0-at2 .ensures) i) (tc a 2 (c .tc0-at3 .ensures) i))
+    (λ i. Filtered (alpha a i) (beta (k .before) i) (tc a 0 (c .before .before .tc0-at .ensures) i) (tc a 1 (c .before .tc0-at2 .ensures) i) (tc a 2 (c .tc0-at3 .ensures) i) (ia (a .before) i))
 
 pub thresholds-spec : {M : Type 1} → statement M
 thresholds-spec =

@@ -1,29 +1,21 @@
 -- `filter_normal`: flags, tC and samples are those of the definition. Assumes nothing.
 use borrow.Author.Needs.{needs}
-use mathlib.Core.Path.{_≡_, refl, ap, _∙_}
-use mathlib.Core.Bool.{Bool, true, false}
-use Prim.Native.Nat.{ℕ, _+_, _≤_}
+use mathlib.Core.Path.{_≡_, ap, _∙_}
+use mathlib.Core.Bool.{Bool}
+use Prim.Native.Nat.{ℕ, _+_}
 use native.Mathlib.Omega.{arith}
-use lib.Dec.{lit≤}
 use mir.Val.{boolByte}
 use lib.IntN.{pos, _+ℤ_, _-ℤ_}
 use Rattle.laws.specs.Clip.{clip1}
 use Rattle.lines.specs.Depth.{eight}
 use Rattle.lines.specs.Filter.{deltaOf}
 use Rattle.lines.specs.Luma.{oneIf, innerOf, lumaNormal}
+use Rattle.lines.proofs.Flags.{flag-one, flag-small}
 use Rattle.lines.proofs.luma.filter_normal.Statement.{statement}
 use Rattle.lines.proofs.luma.filter_normal.Tie as tie
 
-is-one : (b : Bool) → boolByte b ≡ oneIf b
-is-one true = refl
-is-one false = refl
-
-small : (b : Bool) → boolByte b ≤ 1
-small true = lit≤ tt
-small false = lit≤ tt
-
 more : (tc0 : ℕ) {a b f g : Bool} → a ≡ f → b ≡ g → tc0 + (boolByte a + boolByte b) ≡ tc0 + (oneIf f + oneIf g)
-more tc0 {a} {b} p q = λ i. tc0 + ((is-one a ∙ ap oneIf p) i + (is-one b ∙ ap oneIf q) i)
+more tc0 {a} {b} p q = λ i. tc0 + ((flag-one a ∙ ap oneIf p) i + (flag-one b ∙ ap oneIf q) i)
 
 returns : tie.Need-returns
 unfolding lumaNormal
@@ -51,7 +43,7 @@ filter-normal-spec =
     (λ c κs. search needs)
     (λ c. search needs)
     (λ c. search needs)
-    (λ c. omega (arith, small (c .before .small-step .result), small (c .small-step2 .result)))
+    (λ c. omega (arith, flag-small (c .before .small-step .result), flag-small (c .small-step2 .result)))
     (λ c κs. search needs)
     (λ c κs. search needs)
     (λ c κs. search needs)

@@ -5,13 +5,11 @@ use Rattle.lines.proofs.luma.strong_side.Statement.{statement}
 use Rattle.lines.proofs.luma.strong_side.Tie as tie
 
 returns : tie.Need-returns
-unfolding strongSide
-returns c = simp (c .before .before .before .if1 .taken) (cc)
+returns c = rw (c .before .if1 .taken) (c .long-means .ensures)
 
 returns-2 : tie.Need-returns-2
 unfolding strongSide
 returns-2 c = simp (c .before .if1 .left) (cc)
 
 pub strong-side-spec : {M : Type 1} → statement M
-strong-side-spec =
-    tie.close (tie.spec (λ c κs. search needs) (λ c κs. search needs) (λ c κs. search needs) returns (λ c κs. search needs) returns-2)
+strong-side-spec = tie.close (tie.spec (λ c κs. search needs) returns (λ c κs. search needs) returns-2)

@@ -46,18 +46,17 @@ returns c = let s = start (c .before) in refused-rows (s .args .part) (data-of s
 
 rows : tie.Need-rows-requires
 rows c κs =
-    let t = c .before .before .before .before .before in
-    let e = t .before in
+    let e = c .before .before .before .before in
     let s = start (e .before) in
     let a = s .args in
     let g = ok e in
-    (t .all .ensures, (g .fit .parity, g .order, g .line, room (a .part) (data-of s) (a .a) (a .b) (length (a .luma .now)) (length (a .u .now)) (length (a .v .now)) g))
+    (g .fit .parity, g .order, g .line, room (a .part) (data-of s) (a .a) (a .b) (length (a .luma .now)) (length (a .u .now)) (length (a .v .now)) g)
 
 returns-2 : tie.Need-returns-2
 returns-2 c =
     let r = c .before .before .before .before .before .before in
-    let on = r .before .before .before .before .before in
-    let e = on .before .before in
+    let on = r .before .before .before .before in
+    let e = on .before in
     let s = start (e .before) in
     let a = s .args in
     let g = ok e in
@@ -70,4 +69,4 @@ returns-2 c =
 pub filter-rows-spec : {M : Type 1} → statement M
 filter-rows-spec =
     tie.close
-    (tie.spec (λ c κs. search needs) (λ c κs. search needs) returns (λ c κs. search needs) (λ c κs. search needs) rows (λ c. search needs) (λ c. search needs) (λ c. search needs) returns-2)
+    (tie.spec (λ c κs. search needs) (λ c κs. search needs) returns (λ c κs. search needs) rows (λ c. search needs) (λ c. search needs) (λ c. search needs) returns-2)

@@ -14,36 +14,33 @@ use Rattle.sliced.proofs.rows.filter_in_row.Statement.{statement}
 use Rattle.sliced.proofs.rows.filter_in_row.Tie as tie
 
 abbrev Inv : tie.InvT-loop
-Inv r o t part w row x0 x1 numbers luma₀ u₀ v₀ strengths qps t8s x₀ luma u v x =
+Inv r o part w row x0 x1 numbers luma₀ u₀ v₀ strengths qps t8s x₀ luma u v x =
     (x0 ≤ x) × (x ≤ x1) × (length luma ≡ length luma₀) × (length u ≡ length u₀) × (length v ≡ length v₀)
     × (planes luma u v ≡ span x0 x (λ k. laidMb (heldAs w (entries strengths) qps t8s o (edgesBy r numbers w k row)) (layoutOf part) k row) (planes luma₀ u₀ v₀))
 
 abbrev μ : tie.MeasureT-loop
-μ r o t part w row x0 x1 numbers luma₀ u₀ v₀ strengths qps t8s x₀ luma u v x = x1 - x
+μ r o part w row x0 x1 numbers luma₀ u₀ v₀ strengths qps t8s x₀ luma u v x = x1 - x
 
 edges-requires : tie.Need-edges-by-requires Inv μ
 edges-requires c κs =
     let s = c .before .before .before .before .before .before .before .before .before in
-    record { column = omega (arith, c .loop-test .taken, s .pre .1); index = omega (arith, c .loop-test .taken, s .pre .1) }
+    record { column = omega (arith, c .loop-test .taken, s .pre); index = omega (arith, c .loop-test .taken, s .pre) }
 
 macroblock-requires : tie.Need-macroblock-requires Inv μ
 macroblock-requires c κs =
     let test = c .before .before .before .before in
     let s = test .before .before .before .before .before .before .before .before .before in
-    let room = s .pre .1 .4 in (
+    let room = s .pre .4 in (
       s .pre .0,
-      (
-        s .pre .1 .0,
-        omega (arith, test .loop-test .taken, s .pre .1),
-        record {
-          luma = omega (arith, room .luma);
-          u = omega (arith, room .u);
-          v = omega (arith, room .v);
-          qps = room .qps;
-          t8s = room .t8s;
-          strengths = room .strengths;
-        },
-      ),
+      omega (arith, test .loop-test .taken, s .pre),
+      record {
+        luma = omega (arith, room .luma);
+        u = omega (arith, room .u);
+        v = omega (arith, room .v);
+        qps = room .qps;
+        t8s = room .t8s;
+        strengths = room .strengths;
+      },
     )
 
 loop-again : tie.Need-loop-again Inv μ

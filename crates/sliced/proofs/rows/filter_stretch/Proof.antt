@@ -65,27 +65,23 @@ in-row c =
 
 row-requires : tie.Need-filter-in-row-requires
 row-requires c κs =
-    let m = c .before .before .before .before in
-    let k = m .before .before in
+    let k = c .before .before .before .before in
     let s = first k in
     let p = placed s in
     let room = s .pre .room in
     let f = frame-of-part-le (s .args .part) (p .ends) in (
-      m .all .ensures,
-      (
-        s .pre .parity,
-        omega arith,
-        in-row k,
-        omega (arith, p .ends, s .pre .numbers),
-        record {
-          luma = omega (arith, room .luma, f);
-          u = omega (arith, room .u, f);
-          v = omega (arith, room .v, f);
-          qps = omega (arith, p .ends, room .qps);
-          t8s = λ h. omega (arith, p .ends, room .t8s h);
-          strengths = omega (arith, p .ends, room .strengths);
-        },
-      ),
+      s .pre .parity,
+      omega arith,
+      in-row k,
+      omega (arith, p .ends, s .pre .numbers),
+      record {
+        luma = omega (arith, room .luma, f);
+        u = omega (arith, room .u, f);
+        v = omega (arith, room .v, f);
+        qps = omega (arith, p .ends, room .qps);
+        t8s = λ h. omega (arith, p .ends, room .t8s h);
+        strengths = omega (arith, p .ends, room .strengths);
+      },
     )
 
 -- the macroblocks of the stretch are of the slice of i
@@ -99,7 +95,7 @@ same-slice k t e x h l =
 returns : tie.Need-returns
 returns c =
     let q = c .before .before .before .before .before .before in
-    let o = q .before .before .before .before .before .before in
+    let o = q .before .before .before .before in
     let k = o .before in
     let s = first k in
     let a = s .args in
@@ -129,7 +125,6 @@ filter-stretch-spec =
     end-requires
     (λ c. search needs)
     (λ c. let s = first c in record { fits = omega (arith, in-row c, placed s .ends, most s) })
-    (λ c κs. search needs)
     (λ c κs. search needs)
     row-requires
     (λ c. search needs)

@@ -19,7 +19,7 @@ use Rattle.sliced.proofs.Fits.{other-same, visit-other, as-many}
 use Rattle.sliced.proofs.visiting.refuse_sliced_visit.Statement.{statement}
 use Rattle.sliced.proofs.visiting.refuse_sliced_visit.Tie as tie
 
-abbrev start : tie.After-refuse-early → tie.Start
+abbrev start : tie.After-refuse-shared → tie.Start
 start c = c .before .before .before .before .before .before .before .before
 
 abbrev differ : tie.Start → Bool
@@ -33,12 +33,12 @@ shared s =
 abbrev of-slices : tie.Start → List (ℕ × Bool)
 of-slices s = let a = s .args in surveyChecks (a .s) (λ bad xs. badAround bad xs (a .size .w) (a .x) (a .y)) (a .numbers .now)
 
-answered : (c : tie.After-refuse-early) → c .refuse-early .result ≡ refusal (shared (start c))
+answered : (c : tie.After-refuse-shared) → c .refuse-shared .result ≡ refusal (shared (start c))
 answered c =
     let s = start c in
     let a = s .args in
     let m = not (eqb (length (a .marks .now)) (a .size .w * a .size .h)) in
-    c .refuse-early .ensures
+    c .refuse-shared .ensures
     ∙ other-same (a .part) (a .size) (outsideOf (a .size) (a .x) (a .y)) (c .before .before .bad-count .result || m) (differ s || m) (c .before .bad-range .result) (surveySix (a .s) (a .c)) (a .luma) (a .u) (a .v)
     (a .strengths .now) (a .qps .now) (a .t8s .now) (visitReads (a .size .w) (a .strengths .now) (a .t8s .now) (a .marks .now) (a .x, a .y))
     (λ e i. c .before .before .bad-count .ensures e i || m) (c .before .bad-range .ensures)

@@ -2,22 +2,20 @@
 -- nothing.
 use borrow.Author.Needs.{needs}
 use mathlib.Core.Path.{_≡_, sym, _∙_}
-use mathlib.Core.Bool.{Bool, not, _||_}
+use mathlib.Core.Bool.{Bool, false, not}
 use mathlib.Core.List.{List, _++_}
 use Prim.Native.Nat.{ℕ, _*_}
 use native.Mathlib.Omega.{arith}
 use lib.Dec.{eqb}
 use lib.ListN.{length}
 use Rattle.laws.specs.Refusal.{refusal}
-use Rattle.laws.proofs.Bools.{or-false}
 use Rattle.laws.proofs.Refusal.{first-applies, first-passed, passes}
 use Rattle.edges.specs.Cases.{noOffsets}
 use Rattle.sizes.specs.Sizes.{outsideOf}
 use Rattle.sizes.proofs.Sized.{Sized, sized}
 use Rattle.pictures.specs.Checks.{Lent, lent, pictureChecks, gridChecks, entryChecks}
-use Rattle.pictures.proofs.Fitting.{fitting}
 use Rattle.visits.specs.Checks.{visitReads}
-use Rattle.visits.proofs.VisitFits.{VisitFits, visit-fits, index, in-picture, in-largest}
+use Rattle.visits.proofs.VisitFits.{VisitFits, grouped-visit-fits, entries-lie}
 use Rattle.visits.proofs.checks.refuse_early.Statement.{statement}
 use Rattle.visits.proofs.checks.refuse_early.Tie as tie
 
@@ -29,7 +27,7 @@ abbrev grids : tie.Start → List (ℕ × Bool)
 grids s =
     let a = s .args in
     let n = a .size .w * a .size .h in
-    gridChecks n (length (a .strengths .now)) (length (a .qps .now)) (length (a .t8s .now)) (a .other || not (eqb (length (a .marks .now)) n)) (a .six)
+    gridChecks n (length (a .strengths .now)) (length (a .qps .now)) (length (a .t8s .now)) (not (eqb (length (a .marks .now)) n)) (a .six)
 
 abbrev entries : tie.Start → List (ℕ × Bool)
 entries s = let a = s .args in entryChecks (a .qps .now) (visitReads (a .size .w) (a .strengths .now) (a .t8s .now) (a .marks .now) (a .x, a .y))
@@ -55,10 +53,7 @@ ok : (c : tie.Else2) → let s = start (c .before .before) in let a = s .args in
 ok c =
     let s = start (c .before .before) in
     let a = s .args in
-    let z = zero (c .before .before) in
-    let four = or-false _ _ (passes 4 (grids s) tt (zero-2 c)) in
-    visit-fits (a .part) (data-of s) (a .luma) (a .u) (a .v) (length (a .marks .now)) (a .x, a .y)
-    (fitting (a .part) (data-of s) (a .luma) (a .u) (a .v) (passes 1 (picture s) tt z) (passes 19 (picture s) tt z) (passes 3 (picture s) tt z) (four .0)) (passes 2 (picture s) tt z) (or-false (a .other) _ (four .1) .1)
+    grouped-visit-fits (a .part) (data-of s) (a .luma) (a .u) (a .v) (length (a .marks .now)) (a .x, a .y) false (a .six) (zero (c .before .before)) (zero-2 c)
 
 returns : tie.Need-returns
 returns c =
@@ -75,16 +70,7 @@ visit-entries : tie.Need-refuse-visit-entries-requires
 visit-entries c κs =
     let s = start (c .before .before) in
     let a = s .args in
-    let g = ok c in
-    let f = g .fit in
-    let inside = in-picture (a .part) (data-of s) (a .luma) (a .u) (a .v) (length (a .marks .now)) (a .x, a .y) g in
-    let i = index (a .part) (data-of s) (a .luma) (a .u) (a .v) (length (a .marks .now)) (a .x, a .y) g in (
-      inside (length (a .marks .now)) (g .marks),
-      inside (length (a .qps .now)) (f .qps),
-      in-largest (a .part) (data-of s) (a .luma) (a .u) (a .v) (length (a .marks .now)) (a .x, a .y) g,
-      omega (arith, f .strengths),
-      λ h. omega (arith, f .t8s h),
-    )
+    entries-lie (a .part) (data-of s) (a .luma) (a .u) (a .v) (length (a .marks .now)) (a .x, a .y) (ok c)
 
 returns-3 : tie.Need-returns-3
 returns-3 c =

@@ -85,15 +85,14 @@ before-three c = c .before .before .before
 
 macroblock-requires : tie.Need-macroblock-requires
 macroblock-requires c κs =
-    let all = c .before .before .before .before in
-    let f = past (before-three (all .before)) in
+    let f = past (before-three (c .before .before .before)) in
     let s = start f in
-    (all .all .ensures, (ok f .fit .parity, omega (arith, ok f .column), room (s .args .part) (data-by s (single noOffsets)) _ _ _ _ (asked s) (ok f)))
+    (ok f .fit .parity, omega (arith, ok f .column), room (s .args .part) (data-by s (single noOffsets)) _ _ _ _ (asked s) (ok f))
 
 returns-4 : tie.Need-returns-4
 returns-4 c sl own e =
     let m = c .before .before .before .before .before .before in
-    let three = m .before .before .before .before .before .before in
+    let three = m .before .before .before .before in
     let two = before-three three in
     let f = past two in
     let s = start f in
@@ -120,10 +119,9 @@ visit-with-spec =
     waits-requires
     (λ c. search needs)
     returns-3
-    (λ c κs. search needs)
     macroblock-requires
     (λ c.
-    let f = past (before-three (c .before .before .before .before .before .before .before .before .before .before .before .before)) in
+    let f = past (before-three (c .before .before .before .before .before .before .before .before .before .before)) in
     omega (arith, place f, ok f .marks))
     (λ c. search needs)
     (λ c. search needs)

@@ -1,4 +1,4 @@
--- `visit`: the four ways out are those of the promise. Assumes nothing.
+-- `visit`: the five ways out are those of the promise. Assumes nothing.
 use borrow.Author.Needs.{needs}
 use borrow.Author.Tests.{eq-eqb, ne-eqb}
 use mathlib.Core.Path.{_≡_, refl, sym, ap, _∙_}
@@ -9,12 +9,13 @@ use lib.ListN.{length}
 use Rattle.laws.specs.Refusal.{refusal}
 use Rattle.edges.specs.Alike.{heldAs}
 use Rattle.edges.specs.Laid.{layoutOf, laidMb}
-use Rattle.edges.specs.Picture.{Planes, planes, entries}
+use Rattle.edges.specs.Picture.{Planes, planes, entries, stepOf}
 use Rattle.edges.specs.declared.EdgesOn.{EdgesOn}
 use Rattle.edges.specs.Fields.{onPart}
 use Rattle.edges.proofs.OnPart.{mb-on-part}
 use Rattle.edges.proofs.Pictures.{step-index}
-use Rattle.visits.specs.Visit.{At, State}
+use Rattle.edges.proofs.Unchanged.{laid-still, all-zero}
+use Rattle.visits.specs.Visit.{At, State, answer}
 use Rattle.pictures.specs.Checks.{Lent, lent, heldOf}
 use Rattle.visits.specs.Checks.{earlyIn}
 use Rattle.visits.specs.Inner.{sharedVisitChecks}
@@ -97,30 +98,54 @@ returns-3 c =
 abbrev before-three : tie.Else3 → tie.Else2
 before-three c = c .before .before .before
 
-macroblock-requires : tie.Need-macroblock-requires
-macroblock-requires c κs =
-    let all = c .before .before .before .before .before in
-    let f = past (before-three (all .before)) in
-    let s = start f in
-    (all .all .ensures, (ok f .fit .parity, omega (arith, ok f .column), room (s .args .part) (data-of s) _ _ _ _ (asked s) (ok f)))
+-- .. so it is answered with 0
+done : (c : tie.Else3) → let s = start (past (before-three c)) in answer (s .args .size .w) (earlyIn (s .args .part) (data-of s)) (state s) (asked s) ≡ 0
+done c =
+    let two = before-three c in
+    let s = start (past two) in
+    answer-0 (s .args .size .w) (earlyIn (s .args .part) (data-of s)) (state s) (asked s) (zero (past two)) (ne-eqb _ 1 (two .if2 .left)) (sym (c .before .waits .ensures) ∙ c .if3 .left)
 
-returns-4 : tie.Need-returns-4
-returns-4 c =
-    let m = c .before .before .before .before .before .before in
-    let on = m .before .before .before .before .before in
-    let three = on .before .before in
-    let two = before-three three in
-    let f = past two in
+-- the macroblock where it lies is the step of the picture on its part of the planes
+step-made : (c : tie.Else3) → let s = start (past (before-three c)) in let a = s .args in
+    laidMb (heldOf (data-of s)) (layoutOf (a .part)) (a .x) (a .y) (state s .0) ≡ onPart (a .part) (a .size) (stepOf (heldOf (data-of s)) (a .y * a .size .w + a .x)) (state s .0)
+step-made c =
+    let f = past (before-three c) in
     let s = start f in
     let a = s .args in
     let g = ok f in
-    done-outcome
-    (answer-0 (s .args .size .w) (earlyIn (s .args .part) (data-of s)) (state s) (asked s) (zero f) (ne-eqb _ 1 (two .if2 .left)) (sym (three .before .waits .ensures) ∙ three .if3 .left))
-    (m .macroblock .ensures
-    ∙ ap (λ (k : EdgesOn). laidMb (heldAs (a .size .w) (entries (a .strengths .now)) (a .qps .now) (a .t8s .now) (a .o) k) (layoutOf (a .part)) (a .x) (a .y) (state s .0)) (on .every-edge .ensures)
-    ∙ mb-on-part (heldOf (data-of s)) (a .size .h) (g .fit .sides .both .wide) (a .part) (g .fit .parity) (a .x) (a .y) (g .column) (g .row) (state s .0)
+    mb-on-part (heldOf (data-of s)) (a .size .h) (g .fit .sides .both .wide) (a .part) (g .fit .parity) (a .x) (a .y) (g .column) (g .row) (state s .0)
     (record { luma = g .fit .luma; u = g .fit .u; v = g .fit .v })
-    ∙ (λ i. onPart (a .part) (a .size) (λ t. sym (step-index (heldOf (data-of s)) (a .x) (a .y) (g .column) t) i) (state s .0)))
+    ∙ (λ i. onPart (a .part) (a .size) (λ t. sym (step-index (heldOf (data-of s)) (a .x) (a .y) (g .column) t) i) (state s .0))
+
+all-zero-requires : tie.Need-all-zero-requires
+all-zero-requires c κs = let f = past (before-three c) in omega (arith, place f, ok f .fit .strengths)
+
+-- all its strengths are 0: the planes are those of its step as they are
+returns-4 : tie.Need-returns-4
+returns-4 c =
+    let three = c .before .before in
+    let s = start (past (before-three three)) in
+    let a = s .args in
+    let zeros = all-zero _ (sym (c .before .all-zero .ensures) ∙ c .if4 .taken) in
+    done-outcome (done three) (sym (laid-still (heldOf (data-of s)) (a .x) (a .y) zeros (layoutOf (a .part)) (state s .0)) ∙ step-made three) refl
+
+filter-edges-requires : tie.Need-filter-edges-requires
+filter-edges-requires c κs =
+    let f = past (before-three (c .before .before .before .before .before .before)) in
+    let s = start f in
+    (ok f .fit .parity, omega (arith, ok f .column), room (s .args .part) (data-of s) _ _ _ _ (asked s) (ok f))
+
+returns-5 : tie.Need-returns-5
+returns-5 c =
+    let m = c .before .before .before .before .before .before in
+    let on = m .before .before .before .before in
+    let three = on .before .before .before in
+    let s = start (past (before-three three)) in
+    let a = s .args in
+    done-outcome (done three)
+    (m .filter-edges .ensures
+    ∙ ap (λ (k : EdgesOn). laidMb (heldAs (a .size .w) (entries (a .strengths .now)) (a .qps .now) (a .t8s .now) (a .o) k) (layoutOf (a .part)) (a .x) (a .y) (state s .0)) (on .every-edge .ensures)
+    ∙ step-made three)
     refl
 
 pub visit-spec : {M : Type 1} → statement M
@@ -139,9 +164,13 @@ visit-spec =
     waits-requires
     (λ c. search needs)
     returns-3
+    (λ c. let f = past (before-three c) in record { fits = omega (arith, place f, ok f .fit .sides .most) })
+    all-zero-requires
+    (λ c. let f = past (before-three (c .before .before)) in omega (arith, place f, ok f .marks))
+    (λ c. search needs)
+    returns-4
     (λ c κs. search needs)
-    (λ c κs. search needs)
-    macroblock-requires
+    filter-edges-requires
     (λ c.
     let f = past (before-three (c .before .before .before .before .before .before .before .before .before .before .before .before .before)) in
     omega (arith, place f, ok f .marks))
@@ -149,4 +178,4 @@ visit-spec =
     (λ c. search needs)
     (λ c. search needs)
     (λ c. search needs)
-    returns-4)
+    returns-5)

@@ -1,16 +1,18 @@
 // The strength calls, for C.
 ghost use mathlib.Core.Path.{_≡_};
+ghost use mathlib.Core.Bool.{cond};
+ghost use lib.Dec.{ltb};
 ghost use Rattle.motion.specs.Grids.{grids};
 ghost use Rattle.strengths.specs.Calls.{DeriveOutcome, FlagsOutcome, PlainOutcome};
+ghost use Rattle.strengths.specs.declared.kinds.Known.the-variants.{Stated, NoKind};
 ghost use Rattle.deblock.specs.Numbers.{sizeOf, isSet, flagged, kindNumber, untrueNumber};
 use sizes::Size;
+use strengths::calls::derive_known;
 use strengths::calls::derive_mb;
 use strengths::calls::derive_mb_bs;
-use strengths::calls::derive_mb_kind;
-use strengths::checks::refuse_derive;
 use strengths::kinds::Flagged;
+use strengths::kinds::Known;
 use strengths::kinds::MbKind;
-use strengths::kinds::Request;
 
 // Strengths of a macroblock of which nothing is known.
 #[no_mangle]
@@ -115,6 +117,16 @@ fn kind_of_number(k: u8) -> MbKind
     MbKind::Inter
 }
 
+// What any number says.
+fn known_of_number(k: u8) -> Known
+    ensures { λ r. ⌜ r ≡ cond (ltb 3 k) NoKind (Stated (kindNumber k)) ⌝ }
+{
+    if 3 < k {
+        return Known::NoKind;
+    }
+    Known::Stated(kind_of_number(k))
+}
+
 // Strengths of a macroblock whose kind is known. A number above 3 is a kind that is true of no grids.
 #[no_mangle]
 pub extern "C" fn deblock_strengths_kind<'a>(
@@ -138,30 +150,12 @@ pub extern "C" fn deblock_strengths_kind<'a>(
     ensures { λ n. ⌜ DeriveOutcome (sizeOf w h) (isSet field) x y (now (t8s .entry)) (grids (now (inter .entry)) (now (nnz .entry)) (now (ref0 .entry)) (now (mv0 .entry)) (now (ref1 .entry)) (now (mv1 .entry)) (now (pictures0 .entry)) (now (pictures1 .entry))) (untrueNumber (sizeOf w h) x y kind (grids (now (inter .entry)) (now (nnz .entry)) (now (ref0 .entry)) (now (mv0 .entry)) (now (ref1 .entry)) (now (mv1 .entry)) (now (pictures0 .entry)) (now (pictures1 .entry)))) (now (strengths .entry)) n (now (strengths .exit)) ⌝ }
 {
     let size = Size { w, h };
-    if 3 < kind {
-        let n = refuse_derive(
-            size,
-            x,
-            y,
-            t8s,
-            strengths.len(),
-            inter,
-            nnz,
-            ref0,
-            mv0,
-            ref1,
-            mv1,
-            pictures0,
-            pictures1,
-        );
-        return if n != 0 { n } else { 12 };
-    }
-    let kind = kind_of_number(kind);
-    let r = Request { x, y, kind };
-    derive_mb_kind(
+    derive_known(
         size,
         field != 0,
-        r,
+        x,
+        y,
+        known_of_number(kind),
         t8s,
         inter,
         nnz,

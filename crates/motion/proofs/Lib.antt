@@ -3,6 +3,7 @@ pub mod Differ
 pub mod Far
 pub mod Laws
 pub mod Limits
+pub mod Lone
 pub mod GridParts
 pub mod Pairings
 pub mod Pictures

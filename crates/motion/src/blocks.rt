@@ -2,6 +2,9 @@
 // 8.7.2.1). `vertical` is the most by which near vectors differ vertically: 3 in frames, 1 in fields.
 // Horizontally it is always 3.
 ghost use mathlib.Core.Path.{_≡_};
+ghost use mathlib.Core.Bool.{cond};
+ghost use Prim.Native.Nat.{_+_, _-_};
+ghost use Rattle.motion.specs.Inner.{loneStrength};
 ghost use Rattle.motion.specs.Motion.{motion0, motion1, isUsed, ifUsed, mate, mismatched, differ, interStrength, equalMotion, sameMotion};
 use crate::vectors::far;
 
@@ -83,6 +86,19 @@ pub fn bs1_tile(vertical: u8, p: Blk, q: Blk) -> bool
     false
 }
 
+// x, or 0 where it is off.
+fn if_on(on: bool, x: u8) -> u8
+    ensures { λ r. ⌜ r ≡ cond on x 0 ⌝ }
+{
+    if on { x } else { 0 }
+}
+
+fn greatest(a: u8, b: u8) -> u8
+    ensures { λ r. ⌜ r ≡ a + (b - a) ⌝ }
+{
+    if a < b { b } else { a }
+}
+
 // The strength between two inter blocks, of which `coded` says whether one has coefficients: 2, 1 or 0.
 pub fn bs_inter(vertical: u8, coded: bool, p: Blk, q: Blk) -> u8
     ensures { λ r. ⌜ r ≡ interStrength vertical coded p q ⌝ }
@@ -94,6 +110,20 @@ pub fn bs_inter(vertical: u8, coded: bool, p: Blk, q: Blk) -> u8
         return 1;
     }
     0
+}
+
+// 2 or else 1: as the greater of two numbers, since a branch by coefficients would often be mistaken.
+fn graded(coded: bool, differs: bool) -> u8
+    ensures { λ r. ⌜ r ≡ cond coded 2 (cond differs 1 0) ⌝ }
+{
+    greatest(if_on(coded, 2), if_on(differs, 1))
+}
+
+// The strength of two inter blocks that hold nothing in list 1, by what they hold in list 0.
+pub fn bs_one(vertical: u8, coded: bool, p: Motion, q: Motion) -> u8
+    ensures { λ r. ⌜ r ≡ loneStrength vertical coded p q ⌝ }
+{
+    graded(coded, unlike(vertical, p, q))
 }
 
 // Equal references and vectors.

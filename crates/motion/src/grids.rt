@@ -2,13 +2,15 @@
 // A function that takes both motion grids has one lifetime for the two, and so must every caller have.
 ghost use mathlib.Core.Path.{_≡_};
 ghost use mathlib.Core.Bool.{cond};
+ghost use mathlib.Core.List.{[]};
 ghost use Prim.Native.Nat.{_+_, _*_, _<_, _≤_};
 ghost use lib.ListN.{length};
 ghost use Rattle.motion.specs.Grids.{refAt, vectorAt, motionAt, blockOf, blockRead};
-ghost use Rattle.motion.specs.Inner.{Optional, Hold, pairAt};
+ghost use Rattle.motion.specs.Inner.{Optional, Hold, pairAt, loneStrength};
 ghost use Rattle.motion.specs.Pictures.{pictureIn, namedBy};
 use crate::blocks::Blk;
 use crate::blocks::Motion;
+use crate::blocks::bs_one;
 
 // The pair of block i, as part of a motion grid.
 fn pair<'a>(mvs: &'a [i16], i: usize) -> &'a [i16]
@@ -97,6 +99,17 @@ fn list1<'a>(ref1: &[i8], mv0: &'a [i16], mv1: &'a [i16], pictures1: &[i32], i: 
     vector_at(named_by(pictures1, ref_at(ref1, i)), mv0, mv1, true, i)
 }
 
+// What a list without a table holds of block i.
+fn lone_at(refs: &[i8], mvs: &[i16], i: usize) -> Motion
+    requires { ⌜ (i < length (now refs)) × (2 * i + 2 ≤ length (now mvs)) ⌝ }
+    ensures { λ r. ⌜ r ≡ motionAt [] (now (refs .entry)) (now (mvs .entry)) i ⌝ }
+{
+    let reference = ref_at(refs, i);
+    let x = mvs[2 * i];
+    let y = mvs[2 * i + 1];
+    Motion { reference, x, y }
+}
+
 // A block of what each list holds.
 fn block_of(inter: bool, m: Motion, n: Motion) -> Blk
     ensures { λ r. ⌜ r ≡ blockOf inter m n ⌝ }
@@ -129,4 +142,18 @@ pub fn load<'a>(
     let m = list0(ref0, mv0, mv1, pictures0, i);
     let n = list1(ref1, mv0, mv1, pictures1, i);
     block_of(inter[i] == 1, m, n)
+}
+
+// The strength between blocks p and q of one list without a table, both inter.
+pub fn bs_lone(vertical: u8, coded: bool, refs: &[i8], mvs: &[i16], p: usize, q: usize) -> u8
+    requires { ⌜ (p < length (now refs)) × (2 * p + 2 ≤ length (now mvs)) ⌝ }
+    requires { ⌜ (q < length (now refs)) × (2 * q + 2 ≤ length (now mvs)) ⌝ }
+    ensures { λ r. ⌜ r ≡ loneStrength vertical coded (motionAt [] (now (refs .entry)) (now (mvs .entry)) p) (motionAt [] (now (refs .entry)) (now (mvs .entry)) q) ⌝ }
+{
+    bs_one(
+        vertical,
+        coded,
+        lone_at(refs, mvs, p),
+        lone_at(refs, mvs, q),
+    )
 }

@@ -14,9 +14,9 @@ use Rattle.motion.specs.Motion.{sameMotion}
 use Rattle.strengths.specs.Blocks.{origin, ownBlock, leftBlock, aboveBlock}
 use Rattle.strengths.specs.Checks.{differs, disagree}
 use Rattle.strengths.specs.Kinds.{everyOwn, uniform, flat, isKind}
-use Rattle.strengths.specs.ByKind.{firstInter, kindBy, kindOf, saysAny, untrueBy, untrueKnown, kindKnown}
+use Rattle.strengths.specs.ByKind.{firstInter, kindBy, kindOf, asksMotion, untrueBy, untrueKnown, kindKnown}
 use Rattle.strengths.specs.declared.kinds.Known.{Known}
-use Rattle.strengths.specs.declared.kinds.Known.the-variants.{Stated, Flags}
+use Rattle.strengths.specs.declared.kinds.Known.the-variants.{Stated, Flags, NoKind}
 use Rattle.strengths.specs.declared.kinds.MbKind.{MbKind}
 use Rattle.strengths.specs.declared.kinds.MbKind.the-variants.{Intra, Skip, InterUniform, Inter}
 use Rattle.laws.proofs.Bools.{or-false}
@@ -46,13 +46,33 @@ bare-is g w x y =
     every-same 4 _ _ (λ r l. every-same 4 _ _ (λ c m. ap not (ltb-not (getD (g .nnz) (ownBlock w x y r c) 0))) ∙ every-not 4 _)
     ∙ every-not 4 _
 
+-- a test that is made, where it answers no
+on : (a b : Bool) → a ≡ true → (a && b) ≡ false → b ≡ false
+on a b e f = sym (ap (λ (c : Bool). c && b) e) ∙ f
+
 module _ (g : Grids) (w x y : ℕ) (agree : disagree (g .inter) w x y ≡ false) where
-  own-agrees : (r c : ℕ) → r < 4 → c < 4 → getD (g .inter) (ownBlock w x y r c) 0 ≡ getD (g .inter) (origin w x y) 0
+  -- the three parts of check 11
+  parts : (some 4 (λ r. some 4 (λ c. differs (g .inter) (ownBlock w x y r c) (origin w x y))) ≡ false)
+      × ((ltb 0 x && some 4 (λ k. differs (g .inter) (leftBlock w x y k) (origin w x y - 1))) ≡ false)
+      × ((ltb 0 y && some 4 (λ k. differs (g .inter) (aboveBlock w x y k) (origin w x y - 4 * w))) ≡ false)
   unfolding disagree
-  own-agrees r c l m =
-      let a = or-false (some 4 (λ i. some 4 (λ j. differs (g .inter) (ownBlock w x y i j) (origin w x y))) || (ltb 0 x && some 4 (λ k. differs (g .inter) (leftBlock w x y k) (origin w x y - 1)))) (ltb 0 y && some 4 (λ k. differs (g .inter) (aboveBlock w x y k) (origin w x y - 4 * w))) agree in
-      let b = or-false (some 4 (λ i. some 4 (λ j. differs (g .inter) (ownBlock w x y i j) (origin w x y)))) (ltb 0 x && some 4 (λ k. differs (g .inter) (leftBlock w x y k) (origin w x y - 1))) (a .0) in
-      eqb-true _ _ (not-false _ (some-not 4 c _ (some-not 4 r _ (b .0) l) m))
+  parts =
+      let o = some 4 (λ r. some 4 (λ c. differs (g .inter) (ownBlock w x y r c) (origin w x y))) in
+      let l = ltb 0 x && some 4 (λ k. differs (g .inter) (leftBlock w x y k) (origin w x y - 1)) in
+      let u = ltb 0 y && some 4 (λ k. differs (g .inter) (aboveBlock w x y k) (origin w x y - 4 * w)) in
+      let a = or-false (o || l) u agree in
+      let b = or-false o l (a .0) in
+      (b .0, b .1, a .1)
+
+  own-agrees : (r c : ℕ) → r < 4 → c < 4 → getD (g .inter) (ownBlock w x y r c) 0 ≡ getD (g .inter) (origin w x y) 0
+  own-agrees r c l m = eqb-true _ _ (not-false _ (some-not 4 c _ (some-not 4 r _ (parts .0) l) m))
+
+  -- the first of the four on a side speaks for them
+  pub left-agrees : (s : ℕ) → s < 4 → 0 < x → getD (g .inter) (leftBlock w x y s) 0 ≡ getD (g .inter) (origin w x y - 1) 0
+  left-agrees s l h = eqb-true _ _ (not-false _ (some-not 4 s _ (on (ltb 0 x) _ (lt-ltb 0 x h) (parts .1)) l))
+
+  pub above-agrees : (s : ℕ) → s < 4 → 0 < y → getD (g .inter) (aboveBlock w x y s) 0 ≡ getD (g .inter) (origin w x y - 4 * w) 0
+  above-agrees s l h = eqb-true _ _ (not-false _ (some-not 4 s _ (on (ltb 0 y) _ (lt-ltb 0 y h) (parts .2)) l))
 
   pub own-inter : (r c : ℕ) → r < 4 → c < 4 → blkAt g (ownBlock w x y r c) .inter ≡ firstInter (g .inter) w x y
   unfolding blockRead
@@ -83,12 +103,18 @@ module _ (g : Grids) (w x y : ℕ) (agree : disagree (g .inter) w x y ≡ false)
   pub known-by : (known : Known) → untrueBy known (firstInter (g .inter) w x y) (oneMotion g w x y) (someCounted g w x y) ≡ untrueKnown known g w x y
   known-by (Stated kind) = ap not (kind-by kind)
   known-by (Flags a u) = sym (λ i. (a && not (flat-is i)) || (u && not (uniform-is i)))
+  known-by NoKind = refl
 
-pub unsaid : (known : Known) (g : Grids) (w x y : ℕ) → saysAny known ≡ false → untrueKnown known g w x y ≡ false
-unsaid (Stated kind) g w x y e = absurd (true≢false e)
-unsaid (Flags a u) g w x y e =
+-- where motion does not tell, what it shows does not matter
+pub unasked : (known : Known) (first same n : Bool) → asksMotion known ≡ false → untrueBy known first false false ≡ untrueBy known first same n
+unasked (Stated Intra) first same n e = refl
+unasked (Stated Skip) first same n e = absurd (true≢false e)
+unasked (Stated InterUniform) first same n e = absurd (true≢false e)
+unasked (Stated Inter) first same n e = refl
+unasked (Flags a u) first same n e =
     let o = or-false a u e in
-    λ i. (o .0 i && not (flat g w x y)) || (o .1 i && not (uniform g w x y))
+    (λ i. (o .0 i && not (first && false && not false)) || (o .1 i && not (first && false))) ∙ sym (λ i. (o .0 i && not (first && same && not n)) || (o .1 i && not (first && same)))
+unasked NoKind first same n e = refl
 
 -- ---- flags that are true amount to a true kind
 flag-true : (b t : Bool) → b ≡ true → (b && not t) ≡ false → t ≡ true
@@ -111,3 +137,9 @@ module _ (g : Grids) (w x y : ℕ) (agree : disagree (g .inter) w x y ≡ false)
   pub known-kind : (known : Known) → untrueKnown known g w x y ≡ false → isKind g w x y (kindKnown known (firstInter (g .inter) w x y)) ≡ true
   known-kind (Stated kind) e = not-false _ e
   known-kind (Flags a u) e = flags-kind a u e
+  known-kind NoKind e = absurd (true≢false e)
+
+  -- where the blocks are inter, by whether they were seen to have one motion
+  pub found-kind : (seen : Bool) → firstInter (g .inter) w x y ≡ true → (seen ≡ true → oneMotion g w x y ≡ true) → isKind g w x y (kindOf true false seen) ≡ true
+  found-kind true f e = uniform-is g w x y agree ∙ (λ i. f i && e refl i)
+  found-kind false f e = inter-is g w x y agree ∙ f

@@ -1,4 +1,5 @@
 pub mod OwnBlocks
+pub mod OwnAlike
 pub mod Across
 pub mod CodedBlocks
 pub mod InterAgrees
@@ -6,6 +7,7 @@ pub mod Before
 pub mod BeforeFlags
 pub mod AcrossFits
 pub mod ByKind
+pub mod Edges
 pub mod Examples
 pub mod EightsExamples
 pub mod TablesExamples

@@ -15,14 +15,12 @@ use Rattle.laws.proofs.Loop.{upTo-keeps}
 use Rattle.motion.specs.Grids.{Grids, blkAt}
 use Rattle.motion.specs.declared.blocks.Blk.{Blk}
 use Rattle.motion.proofs.Laws.{strength-le}
+use Rattle.strengths.specs.Inner.{filled}
 use Rattle.strengths.specs.Strength.{vertical, edge, qBlock, pBlock, border, modeOf, skipped, intraStrength, coded, between, strengthAt, written}
 use Rattle.strengths.specs.declared.kinds.Mode.{Mode}
 
 -- ---- n values from `first` on
-abbrev filled : ℕ → ℕ → (ℕ → ℕ) → List ℕ → List ℕ
-filled n first f s = upTo n (λ k t. set t (first + k) (f k)) s
-
-filled-length : (n first : ℕ) (f : ℕ → ℕ) (s : List ℕ) → length (filled n first f s) ≡ length s
+pub filled-length : (n first : ℕ) (f : ℕ → ℕ) (s : List ℕ) → length (filled n first f s) ≡ length s
 filled-length n first f s = upTo-keeps (λ (t : List ℕ). length t ≡ length s) n _ s (λ k t l e. length-set t (first + k) (f k) ∙ e) refl
 
 filled-beside : (n first : ℕ) (f : ℕ → ℕ) (s : List ℕ) (j : ℕ) → ((k : ℕ) → k < n → j ≡ first + k → ⊥) → getD (filled n first f s) j 0 ≡ getD s j 0

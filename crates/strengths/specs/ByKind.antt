@@ -2,7 +2,7 @@
 -- "Strengths": what the own blocks show, the kind that follows, and the strengths by that kind, without
 -- comparing motion where the kind tells. That they are `strengthAt` is the law `kind-is`.
 use Prim.Native.Nat.{ℕ, _*_}
-use mathlib.Core.Bool.{Bool, true, cond, not, _&&_, _||_}
+use mathlib.Core.Bool.{Bool, true, false, cond, not, _&&_, _||_}
 use mathlib.Core.List.{List}
 use lib.Dec.{eqb}
 use lib.ListN.{getD}
@@ -15,7 +15,7 @@ use Rattle.strengths.specs.Kinds.{uniform, flat, isKind}
 use Rattle.strengths.specs.Strength.{vertical, edge, qBlock, pBlock, border, skipped, outerIntra, between}
 use Rattle.strengths.specs.declared.eights.Transforms.{Transforms}
 use Rattle.strengths.specs.declared.kinds.Known.{Known}
-use Rattle.strengths.specs.declared.kinds.Known.the-variants.{Stated, Flags}
+use Rattle.strengths.specs.declared.kinds.Known.the-variants.{Stated, Flags, NoKind}
 use Rattle.strengths.specs.declared.kinds.Mode.{Mode}
 use Rattle.strengths.specs.declared.kinds.MbKind.{MbKind}
 use Rattle.strengths.specs.declared.kinds.MbKind.the-variants.{Intra, Skip, InterUniform, Inter}
@@ -36,23 +36,41 @@ kindBy Inter first same counted = first
 abbrev pub kindOf : Bool → Bool → Bool → MbKind
 kindOf first flat uniform = cond (not first) Intra (cond flat Skip (cond uniform InterUniform Inter))
 
--- ---- what a caller says: whether it says anything, whether it is untrue by what the own blocks show or of
--- the grids, and the kind to go by
+abbrev pub isIntra : MbKind → Bool
+isIntra Intra = true
+isIntra Skip = false
+isIntra InterUniform = false
+isIntra Inter = false
+
+-- ---- what a caller says: whether it says anything, whether motion and counts tell that it is untrue, whether
+-- it is by what the own blocks show or of the grids, and the kind to go by
 abbrev pub saysAny : Known → Bool
 saysAny (Stated kind) = true
 saysAny (Flags flat uniform) = flat || uniform
+saysAny NoKind = true
+
+abbrev pub asksMotion : Known → Bool
+asksMotion (Stated Intra) = false
+asksMotion (Stated Skip) = true
+asksMotion (Stated InterUniform) = true
+asksMotion (Stated Inter) = false
+asksMotion (Flags flat uniform) = flat || uniform
+asksMotion NoKind = false
 
 abbrev pub untrueBy : Known → Bool → Bool → Bool → Bool
 untrueBy (Stated kind) first same counted = not (kindBy kind first same counted)
 untrueBy (Flags flat uniform) first same counted = (flat && not (first && same && not counted)) || (uniform && not (first && same))
+untrueBy NoKind first same counted = true
 
 abbrev pub untrueKnown : Known → Grids → ℕ → ℕ → ℕ → Bool
 untrueKnown (Stated kind) g w x y = not (isKind g w x y kind)
 untrueKnown (Flags a u) g w x y = (a && not (flat g w x y)) || (u && not (uniform g w x y))
+untrueKnown NoKind g w x y = true
 
 abbrev pub kindKnown : Known → Bool → MbKind
 kindKnown (Stated kind) first = kind
 kindKnown (Flags flat uniform) first = kindOf first flat uniform
+kindKnown NoKind first = Inter
 
 -- ---- an inner edge by kind
 abbrev pub inside : MbKind → ℕ → Bool → Blk → Blk → ℕ
@@ -66,12 +84,16 @@ abbrev pub acrossBy : MbKind → Mode → Bool → Bool → Bool → Blk → Blk
 acrossBy kind mode outer left coded p q =
     cond outer (between (mode .limit) (outerIntra mode left) coded p q) (inside kind (mode .limit) coded p q)
 
--- t has the flags of the macroblock and of its neighbours
+-- p or q is coded: t has the flags of the macroblock and of its neighbours
+abbrev pub eitherCoded : List ℕ → ℕ → Transforms → ℕ → ℕ → ℕ → Bool
+eitherCoded nnz w t x y k =
+    codedBy nnz (4 * w) (acrossFlag t k) (pOdd k) (pBlock w x y k) || codedBy nnz (4 * w) (t .own) (qOdd k) (qBlock w x y k)
+
 unfoldable pub strengthBy : MbKind → Mode → Grids → ℕ → Transforms → ℕ → ℕ → ℕ → ℕ
 strengthBy kind mode g w t x y k =
     cond
     (border x y k || skipped (t .own) k)
     0
     (acrossBy kind mode (eqb (edge k) 0) (vertical k)
-    (codedBy (g .nnz) (4 * w) (acrossFlag t k) (pOdd k) (pBlock w x y k) || codedBy (g .nnz) (4 * w) (t .own) (qOdd k) (qBlock w x y k))
+    (eitherCoded (g .nnz) w t x y k)
     (blkAt g (pBlock w x y k)) (blkAt g (qBlock w x y k)))

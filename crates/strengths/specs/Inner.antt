@@ -1,11 +1,17 @@
 -- Apart: no promise to a caller of the public calls rests on it. What functions of this crate ask of the
--- place, and what a walk looks for at a place of a grid.
-use Prim.Native.Nat.{ℕ, _<_}
+-- place, what they write, what a walk looks for at a place of a grid, and what the quick test of the own blocks
+-- compares.
+use Prim.Native.Nat.{ℕ, _+_, _*_, _<_}
 use mathlib.Core.Bool.{Bool}
 use mathlib.Core.List.{List}
 use lib.Dec.{ltb}
 use lib.IntN.{ℤ}
-use lib.ListN.{length, getD}
+use lib.ListN.{length, getD, set}
+use Rattle.laws.specs.Loop.{upTo}
+use Rattle.laws.specs.Some.{every}
+use Rattle.motion.specs.Grids.{refAt, vectorAt}
+use Rattle.motion.specs.Motion.{equalMotion}
+use Rattle.motion.specs.declared.blocks.Motion.{Motion}
 use Rattle.strengths.specs.Blocks.{ownBlock}
 use Rattle.strengths.specs.Checks.{belowNone}
 use Rattle.strengths.specs.declared.walks.Sought.{Sought}
@@ -16,6 +22,10 @@ pub record InGrids (w x y n : ℕ) : Type 0 where
   pub column : x < w
   pub last : ownBlock w x y 3 3 < n
 
+-- n values from `first` on
+abbrev pub filled : ℕ → ℕ → (ℕ → ℕ) → List ℕ → List ℕ
+filled n first f s = upTo n (λ k t. set t (first + k) (f k)) s
+
 -- what is sought is at place i, and how many places there are
 abbrev pub soughtAt : Sought → List ℕ → List ℤ → ℕ → Bool
 soughtAt (Above top) bytes refs i = ltb top (getD bytes i 0)
@@ -24,3 +34,12 @@ soughtAt BelowNone bytes refs i = belowNone refs i
 abbrev pub placesOf : Sought → List ℕ → List ℤ → ℕ
 placesOf (Above top) bytes refs = length bytes
 placesOf BelowNone bytes refs = length refs
+
+-- a list's reference and vector of block i as they are stored, whatever the reference names
+abbrev pub storedAt : List ℤ → List ℤ → ℕ → Motion
+storedAt refs mvs i = vectorAt (refAt refs i) mvs i
+
+-- they are one for the 4 by 4 blocks from `at` on
+unfoldable pub oneStored : List ℤ → List ℤ → ℕ → ℕ → Bool
+oneStored refs mvs at stride =
+    every 4 (λ j. every 4 (λ k. equalMotion (storedAt refs mvs (at + j * stride + k)) (storedAt refs mvs at)))

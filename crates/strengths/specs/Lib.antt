@@ -1,6 +1,7 @@
 pub mod Blocks
 pub mod ByKind
 pub mod Checks
+pub mod Edges
 pub mod Eights
 pub mod Inner
 pub mod Kinds

@@ -1,7 +1,7 @@
 // The three strength calls: of a field where `field` is true, else of a frame. None asks anything of its
 // caller; a refusal changes no byte.
 ghost use mathlib.Core.Path.{_≡_};
-ghost use mathlib.Core.Bool.{false};
+ghost use mathlib.Core.Bool.{true, false};
 ghost use Prim.Native.Nat.{_+_};
 ghost use Rattle.motion.specs.Grids.{grids};
 ghost use Rattle.motion.specs.Inner.{Hold};
@@ -9,24 +9,29 @@ ghost use Rattle.strengths.specs.Blocks.{ownBlock};
 ghost use Rattle.strengths.specs.Inner.{InGrids};
 ghost use Rattle.strengths.specs.Checks.{disagree};
 ghost use lib.ListN.{length};
-ghost use Rattle.strengths.specs.ByKind.{firstInter, untrueKnown};
+ghost use Rattle.strengths.specs.ByKind.{untrueKnown};
+ghost use Rattle.strengths.specs.Kinds.{isKind};
 ghost use Rattle.strengths.specs.Calls.{DeriveOutcome, KindOutcome, FlagsOutcome, PlainOutcome};
 use crate::checks::refuse_derive;
 use crate::derive::derive;
-use crate::derive::own_same;
 use crate::eights::transforms_at;
 use crate::kinds::Flagged;
 use crate::kinds::Known;
+use crate::kinds::MbKind;
 use crate::kinds::Request;
+use crate::kinds::asks_motion;
 use crate::kinds::kind_known;
+use crate::kinds::kind_of;
 use crate::kinds::mode_of;
 use crate::kinds::says_any;
 use crate::kinds::untrue_by;
+use crate::own::own_same;
+use crate::stored::own_alike;
 use crate::walks::Sought;
 use crate::walks::own_have;
 use sizes::Size;
 
-// Check 12: what is said is not true of the grids. Where nothing is said they are not walked.
+// Check 12: what is said is not true of the grids. Motion and counts are looked at only where they tell.
 fn untrue_known<'a>(
     known: Known,
     w: usize,
@@ -47,25 +52,49 @@ fn untrue_known<'a>(
     requires { ⌜ disagree (now inter) w x y ≡ false ⌝ }
     ensures { λ r. ⌜ r ≡ untrueKnown known (grids (now (inter .entry)) (now (nnz .entry)) (now (ref0 .entry)) (now (mv0 .entry)) (now (ref1 .entry)) (now (mv1 .entry)) (now (pictures0 .entry)) (now (pictures1 .entry))) w x y ⌝ }
 {
-    if !says_any(known) {
-        return false;
-    }
     let at = 16 * (y * w) + 4 * x;
+    if !asks_motion(known) {
+        return untrue_by(known, inter[at] == 1, false, false);
+    }
     let same = own_same(inter, ref0, mv0, ref1, mv1, pictures0, pictures1, at, 4 * w);
     let counted = own_have(Sought::Above(0), nnz, ref0, at, 4 * w);
     untrue_by(known, inter[at] == 1, same, counted)
 }
 
-// Whether the first of the own blocks is inter.
-fn first_inter(inter: &[u8], w: usize, x: usize, y: usize) -> bool
-    requires { ⌜ InGrids w x y (length (now inter)) ⌝ }
-    ensures { λ r. ⌜ r ≡ firstInter (now (inter .entry)) w x y ⌝ }
+// The kind to go by, which is true of the grids: where nothing is said and the blocks are inter, by one quick
+// look at their motion.
+fn kind_found<'a>(
+    known: Known,
+    w: usize,
+    x: usize,
+    y: usize,
+    inter: &[u8],
+    nnz: &[u8],
+    ref0: &[i8],
+    mv0: &'a [i16],
+    ref1: &[i8],
+    mv1: &'a [i16],
+    pictures0: &[i32],
+    pictures1: &[i32],
+) -> MbKind
+    requires { ⌜ Hold (now inter) (now ref0) (now mv0) (now ref1) (now mv1) (ownBlock w x y 3 3 + 1) ⌝ }
+    requires { ⌜ InGrids w x y 589824 ⌝ }
+    requires { ⌜ disagree (now inter) w x y ≡ false ⌝ }
+    requires { ⌜ untrueKnown known (grids (now inter) (now nnz) (now ref0) (now mv0) (now ref1) (now mv1) (now pictures0) (now pictures1)) w x y ≡ false ⌝ }
+    ensures { λ r. ⌜ isKind (grids (now (inter .entry)) (now (nnz .entry)) (now (ref0 .entry)) (now (mv0 .entry)) (now (ref1 .entry)) (now (mv1 .entry)) (now (pictures0 .entry)) (now (pictures1 .entry))) w x y r ≡ true ⌝ }
 {
-    inter[16 * (y * w) + 4 * x] == 1
+    let at = 16 * (y * w) + 4 * x;
+    let first = inter[at] == 1;
+    if first & !says_any(known) {
+        let alike = own_alike(ref0, mv0, ref1, mv1, at, 4 * w);
+        return kind_of(true, false, alike);
+    }
+    kind_known(known, first)
 }
 
-// What the three have in common: checks 1 to 12, then the strengths.
-fn derive_known<'a>(
+// What they have in common: checks 1 to 12, then the strengths. The only caller of the checks and of
+// `derive`, so that all becomes one function, which does not hand slices on.
+pub fn derive_known<'a>(
     size: Size,
     field: bool,
     x: usize,
@@ -119,7 +148,20 @@ fn derive_known<'a>(
     ) {
         return 12;
     }
-    let kind = kind_known(known, first_inter(inter, w, x, y));
+    let kind = kind_found(
+        known,
+        w,
+        x,
+        y,
+        inter,
+        nnz,
+        ref0,
+        mv0,
+        ref1,
+        mv1,
+        pictures0,
+        pictures1,
+    );
     let mode = mode_of(field);
     let t = transforms_at(t8s, w, x, y);
     derive(

@@ -1,8 +1,9 @@
 // The picture's mode; what a caller may know of a macroblock beforehand, and the requests that carry it
 // beside the coordinates.
 ghost use mathlib.Core.Path.{_≡_};
-ghost use Rattle.strengths.specs.ByKind.{kindBy, kindOf, saysAny, untrueBy, kindKnown};
+ghost use Rattle.strengths.specs.ByKind.{isIntra, kindBy, kindOf, asksMotion, saysAny, untrueBy, kindKnown};
 ghost use Rattle.strengths.specs.Strength.{modeOf};
+ghost use Rattle.strengths.specs.declared.kinds.Known.the-variants.{Stated};
 
 // What strengths take of the picture's mode: the most by which near vectors differ vertically, and the
 // strength of an upper edge beside an intra block.
@@ -29,10 +30,31 @@ pub enum MbKind {
     Inter,
 }
 
-// What a caller says of a macroblock: its kind, or flags that it sets only where they are true.
+pub fn is_intra(kind: MbKind) -> bool
+    ensures { λ r. ⌜ r ≡ isIntra kind ⌝ }
+{
+    match kind {
+        MbKind::Intra => true,
+        MbKind::Skip => false,
+        MbKind::InterUniform => false,
+        MbKind::Inter => false,
+    }
+}
+
+// What a caller says of a macroblock: its kind, flags that it sets only where they are true, or a kind that
+// is none of the four and so true of none.
 pub enum Known {
     Stated(MbKind),
     Flags { flat: bool, uniform: bool },
+    NoKind,
+}
+
+// What the four strengths of an edge depend on: nothing, so that they are the same; coefficients; or motion
+// too.
+pub enum Asked {
+    Same(u8),
+    Coded,
+    Moving,
 }
 
 // One macroblock with its kind.
@@ -79,7 +101,8 @@ pub fn kind_of(first: bool, flat: bool, uniform: bool) -> MbKind
     MbKind::Inter
 }
 
-// ---- what a caller says: whether it is anything, whether it is untrue, and the kind to go by
+// ---- what a caller says: whether it is anything, whether motion tells that it is untrue, whether it is, and
+// the kind to go by
 
 pub fn says_any(known: Known) -> bool
     ensures { λ r. ⌜ r ≡ saysAny known ⌝ }
@@ -87,6 +110,28 @@ pub fn says_any(known: Known) -> bool
     match known {
         Known::Stated(_) => true,
         Known::Flags { flat, uniform } => flat | uniform,
+        Known::NoKind => true,
+    }
+}
+
+fn kind_asks_motion(kind: MbKind) -> bool
+    ensures { λ r. ⌜ r ≡ asksMotion (Stated kind) ⌝ }
+{
+    match kind {
+        MbKind::Intra => false,
+        MbKind::Skip => true,
+        MbKind::InterUniform => true,
+        MbKind::Inter => false,
+    }
+}
+
+pub fn asks_motion(known: Known) -> bool
+    ensures { λ r. ⌜ r ≡ asksMotion known ⌝ }
+{
+    match known {
+        Known::Stated(kind) => kind_asks_motion(kind),
+        Known::Flags { flat, uniform } => flat | uniform,
+        Known::NoKind => false,
     }
 }
 
@@ -98,14 +143,17 @@ pub fn untrue_by(known: Known, first: bool, same: bool, counted: bool) -> bool
         Known::Flags { flat, uniform } => {
             (flat & !(first & same & !counted)) | (uniform & !(first & same))
         }
+        Known::NoKind => true,
     }
 }
 
+// Where it is not a kind, no macroblock comes so far.
 pub fn kind_known(known: Known, first: bool) -> MbKind
     ensures { λ r. ⌜ r ≡ kindKnown known first ⌝ }
 {
     match known {
         Known::Stated(kind) => kind,
         Known::Flags { flat, uniform } => kind_of(first, flat, uniform),
+        Known::NoKind => MbKind::Inter,
     }
 }

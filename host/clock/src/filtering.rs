@@ -13,6 +13,7 @@
 mod picture;
 mod ways;
 
+use crate::bounds::{are_within, told};
 use crate::samples::{counted, median};
 use crate::{H, W};
 use inputs::{Content, Rng, Texture};
@@ -28,10 +29,6 @@ const SUBJECTS: [Subject; 4] = [
     Subject { name: "still", content: Content::Still, look: CODED, bound: 0.38, visits: 0.62 },
     Subject { name: "noisy", content: Content::Intra, look: NOISY, bound: 0.22, visits: 0.28 },
 ];
-
-/// How often a content may be timed until it is within its bounds. A machine that others disturb can be above
-/// them for some seconds; code that is too slow stays above.
-const TRIES: usize = 3;
 
 /// Levels of 4x4 blocks up to 4 off either way, as quantising leaves them; and noise, of which no branch can
 /// foresee which lines pass the thresholds. Each picture gets a base of its own.
@@ -55,14 +52,9 @@ pub fn clock(pictures: usize) -> ExitCode {
     println!(
         "          Rust  picture      whole picture           raster   wavefront           raster  wavefront  of the Rust's     of raster's"
     );
-    let within = SUBJECTS.map(|subject| (0..TRIES).any(|_| subject.clock(pictures))).iter().all(|&within| within);
+    let within = are_within(&SUBJECTS, |subject| subject.clock(pictures));
     println!("mixed, whole picture, chroma offsets 1 and -1: {:.3} of its time with 0 and 0", two_offsets(pictures));
-    println!("{}", if within { "every ratio within its bound" } else { "a ratio ABOVE its bound" });
-    if within {
-        ExitCode::SUCCESS
-    } else {
-        ExitCode::FAILURE
-    }
+    told(within)
 }
 
 impl Subject {

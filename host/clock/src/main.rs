@@ -1,5 +1,6 @@
 //! The clock: the proved archive beside the Rust original, in filtering and in deriving strengths.
 
+mod bounds;
 mod cpu_time;
 mod filtering;
 mod samples;
@@ -22,7 +23,9 @@ raster order with the question after each what it has made final, to these visit
 chroma offsets, to the archive's own whole picture with one, nor those of calls with slices of mode 0.
 
 clock strengths [PICTURES]: the three strength calls likewise, on every macroblock of such pictures, PICTURES
-of each content (20 or more; 100 without). They have no bound: the exit status is 0.";
+of each content (20 or more; 100 without), with a bound for each call, and tries and exit status as above.
+The call by kind on intra macroblocks, of which the original copies a constant, has none. Where 8x8 flags are
+lent the original's call by kind, which takes no flag, is timed without.";
 
 /// What is run, of how many pictures without a word, and of how many at least.
 struct Clock {

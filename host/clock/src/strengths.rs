@@ -5,29 +5,35 @@
 //! what counts is the median of the ratios. Each call is told what is true of a macroblock. Conversions are
 //! made before the clock starts, and memory is allocated: the original writes its own types, which become
 //! bytes and are compared after the clock has stopped.
+//!
+//! The original's call by kind takes no 8x8 flag. Where one is set it is timed as without, and what it leaves
+//! on edges 1 and 3, where the rules have 0, is not compared.
 
 mod calls;
+mod contents;
 mod grids;
 mod motion;
 
+use crate::bounds::{are_within, told};
 use crate::samples::{counted, median};
 use crate::{H, W};
 use calls::{Call, Lent};
-use grids::{Content, Grids, CONTENTS};
+use contents::{Content, CONTENTS};
+use grids::Grids;
 use inputs::Rng;
 use std::process::ExitCode;
 
-/// Times all contents. No ratio has a bound.
+/// Times all contents; whether every ratio is within its bound is the exit status.
 pub fn clock(pictures: usize) -> ExitCode {
     println!("{pictures} pictures of {} by {} of each content, CPU time in nanoseconds a macroblock", 16 * W, 16 * H);
-    println!("                               the Rust's              the archive's       of the Rust's time");
-    println!("                         kind   flags   plain     kind   flags   plain    kind   flags   plain");
-    CONTENTS.iter().for_each(|content| row(content, pictures));
-    println!("no bound");
-    ExitCode::SUCCESS
+    let heads = ["the Rust's", "the archive's", "of the Rust's time", "bound"];
+    line("", heads.map(|head| format!("{head:>24}")));
+    line("", [(); 4].map(|()| cells(["kind", "flags", "plain"].map(String::from))));
+    told(are_within(&CONTENTS, |content| row(content, pictures)))
 }
 
-fn row(content: &Content, pictures: usize) {
+/// Times a content; whether all is within the bounds.
+fn row(content: &Content, pictures: usize) -> bool {
     let mut r = Rng::new(13);
     let times = counted(pictures, |turn| {
         let lent = Lent::new(Grids::new(&mut r, content));
@@ -36,9 +42,19 @@ fn row(content: &Content, pictures: usize) {
     let of_calls = |what: fn([f64; 2]) -> f64| {
         Call::ALL.map(|call| median(times.iter().map(|calls| what(calls[call as usize])).collect()))
     };
-    let cells = |of_calls: [f64; 3], digits: usize| of_calls.map(|value| format!("{value:>8.digits$}")).concat();
-    let theirs = cells(of_calls(|[_, original]| 1e9 * original), 1);
-    let ours = cells(of_calls(|[archive, _]| 1e9 * archive), 1);
-    let ratios = cells(of_calls(|[archive, original]| archive / original), 2);
-    println!("{:<21}{theirs} {ours}{ratios}", content.name);
+    let theirs = of_calls(|[_, original]| 1e9 * original).map(|time| format!("{time:.1}"));
+    let ours = of_calls(|[archive, _]| 1e9 * archive).map(|time| format!("{time:.1}"));
+    let ratios = of_calls(|[archive, original]| archive / original);
+    let bounds = content.bounds.map(|bound| bound.map_or("-".into(), |bound| format!("{bound:.2}")));
+    line(content.name, [theirs, ours, ratios.map(|ratio| format!("{ratio:.2}")), bounds].map(cells));
+    content.is_within(ratios)
+}
+
+/// One for each call.
+fn cells(of_calls: [String; 3]) -> String {
+    of_calls.map(|cell| format!("{cell:>8}")).concat()
+}
+
+fn line(name: &str, [theirs, ours, ratios, bounds]: [String; 4]) {
+    println!("{name:<21}{theirs} {ours}{ratios}{bounds}");
 }

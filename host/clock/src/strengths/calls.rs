@@ -1,6 +1,6 @@
 //! The three strength calls, the archive's and the original's, over all macroblocks of a picture.
 
-use super::grids::Grids;
+use super::grids::{is_8x8, Grids};
 use crate::cpu_time::timed;
 use crate::{H, SIZE, W};
 use deblock::{Flags, Kind, Place};
@@ -25,6 +25,7 @@ pub struct Lent {
     flags: Vec<Flags>,
     blocks: oracle::Blocks,
     kinds: Vec<MbKind>,
+    t8s: Vec<bool>,
 }
 
 impl Lent {
@@ -33,6 +34,7 @@ impl Lent {
             flags: grids.kinds.iter().map(|&kind| flags(kind)).collect(),
             blocks: grids.converted(),
             kinds: grids.kinds.iter().map(|&kind| MbKind::from_u8(kind as u8).expect("the same four")).collect(),
+            t8s: (0..W * H).map(|m| is_8x8(&grids.t8s, m)).collect(),
             grids,
         }
     }
@@ -64,8 +66,8 @@ type Side = fn(Call, &Lent) -> (f64, Vec<u8>);
 
 fn archive(call: Call, lent: &Lent) -> (f64, Vec<u8>) {
     let mut strengths = vec![9; 32 * W * H];
-    let mut p = deblock::Picture { size: SIZE, strengths: &mut strengths, ..deblock::Picture::default() };
-    let Lent { grids: Grids { kinds, .. }, flags, .. } = lent;
+    let Lent { grids: Grids { kinds, t8s, .. }, flags, .. } = lent;
+    let mut p = deblock::Picture { size: SIZE, strengths: &mut strengths, t8s, ..deblock::Picture::default() };
     let grids = lent.grids.lent();
     let time = match call {
         Call::Kind => passes(|m, at| assert!(p.derive_by_kind(grids, at, kinds[m]).is_done())),
@@ -78,7 +80,7 @@ fn archive(call: Call, lent: &Lent) -> (f64, Vec<u8>) {
 /// The original writes its own types. It is called by pointers of which the compiler knows nothing, so that
 /// no function is inlined and made for what it is lent here, and no pass is left out.
 fn original(call: Call, lent: &Lent) -> (f64, Vec<u8>) {
-    let Lent { blocks, flags, kinds, .. } = lent;
+    let Lent { blocks, flags, kinds, t8s, .. } = lent;
     let info = &blocks.info();
     let mut packed = vec![MbBs::UNSET; W * H];
     let mut edges: Vec<Edges> = vec![[[[9; 4]; 4]; 2]; W * H];
@@ -86,21 +88,27 @@ fn original(call: Call, lent: &Lent) -> (f64, Vec<u8>) {
         Call::Kind => {
             let derive = black_box::<fn(&BlockInfo, usize, usize, MbKind) -> MbBs>(derive_mb_kind);
             let time = passes(|m, at| packed[m] = derive(info, at.x, at.y, kinds[m]));
+            packed.iter_mut().zip(t8s).filter(|(_, t8)| **t8).for_each(|(own, _)| without_4x4_edges(own));
             (time, bytes(&packed))
         }
         Call::Flags => {
             let derive = black_box::<fn(&BlockInfo, usize, usize, [bool; 2], bool, &mut Edges)>(derive_flags_into);
             let told = |m: usize| [flags[m].flat, flags[m].uniform];
-            let time = passes(|m, at| derive(info, at.x, at.y, told(m), false, &mut edges[m]));
+            let time = passes(|m, at| derive(info, at.x, at.y, told(m), t8s[m], &mut edges[m]));
             let strengths = edges.into_iter().flatten().flatten().flatten();
             (time, strengths.map(|strength| strength.try_into().expect("at most 4")).collect())
         }
         Call::Plain => {
             let derive = black_box::<fn(&BlockInfo, usize, usize, bool) -> MbBs>(derive_mb);
-            let time = passes(|m, at| packed[m] = derive(info, at.x, at.y, false));
+            let time = passes(|m, at| packed[m] = derive(info, at.x, at.y, t8s[m]));
             (time, bytes(&packed))
         }
     }
+}
+
+/// As the rules have it under an 8x8 flag, which the original's call by kind does not take.
+fn without_4x4_edges(own: &mut MbBs) {
+    [own.v[1], own.v[3], own.h[1], own.h[3]] = [[0; 4]; 4];
 }
 
 fn bytes(packed: &[MbBs]) -> Vec<u8> {

@@ -1,17 +1,12 @@
 -- `derive_known`: the three ways out are those of the promise. Assumes nothing.
 use borrow.Author.Needs.{needs}
-use mathlib.Core.Path.{_≡_, sym, ap, _∙_}
-use mathlib.Core.Bool.{Bool, true}
+use mathlib.Core.Path.{_≡_, sym, _∙_}
 use lib.ListN.{length}
 use Rattle.laws.specs.Refusal.{refusal}
 use Rattle.motion.specs.Grids.{Grids, grids}
 use Rattle.strengths.specs.Calls.{deriveChecks}
-use Rattle.strengths.specs.Kinds.{isKind}
-use Rattle.strengths.specs.ByKind.{kindKnown}
-use Rattle.strengths.specs.declared.kinds.MbKind.{MbKind}
 use Rattle.strengths.proofs.DeriveOutcomes.{passed-derivable, agrees, refused, untrue-12, done}
 use Rattle.strengths.proofs.GridsFit.{Derivable}
-use Rattle.strengths.proofs.InterAgrees.{known-kind}
 use Rattle.strengths.proofs.calls.derive_known.Statement.{statement}
 use Rattle.strengths.proofs.calls.derive_known.Tie as tie
 
@@ -47,37 +42,36 @@ returns-2 c =
     let a = s .args in
     untrue-12 (a .size) (a .field) (a .x) (a .y) (a .t8s .now) (given s) _ (a .strengths .now) (zero e) (sym (c .before .untrue-known .ensures) ∙ c .if2 .taken)
 
-inter : tie.Need-first-inter-requires
-inter c κs = ok (c .before .before) .inter
-
-flags : tie.Need-transforms-at-requires
-flags c κs = let e = ok (c .before .before .before .before .before) in (e .index, e .flags)
-
-derives : tie.Need-derive-requires
-derives c κs = let e = ok (c .before .before .before .before .before .before .before) in (e .grids, (e .nnz, (e .place, e .room)))
-
--- the kind that is handed on is true
-true-kind : (c : tie.After-kind-known) → let s = start (c .before .before .before .before) in let a = s .args in isKind (given s) (a .size .w) (a .x) (a .y) (c .kind-known .result) ≡ true
-true-kind c =
-    let t = c .before .before in
-    let e = t .before .before in
+kinds : tie.Need-kind-found-requires
+kinds c κs =
+    let e = c .before .before in
     let s = start e in
     let a = s .args in
-    ap (λ (k : MbKind). isKind (given s) (a .size .w) (a .x) (a .y) k) (c .kind-known .ensures ∙ ap (λ (b : Bool). kindKnown (a .known) b) (c .before .first-inter .ensures))
-    ∙ known-kind (given s) (a .size .w) (a .x) (a .y) (agrees (a .size) (a .x) (a .y) (a .t8s .now) (given s) (length (a .strengths .now)) (zero e)) (a .known) (sym (t .before .untrue-known .ensures) ∙ t .if2 .left)
+    (ok e .grids, (ok e .place, (agrees (a .size) (a .x) (a .y) (a .t8s .now) (given s) (length (a .strengths .now)) (zero e), sym (c .before .untrue-known .ensures) ∙ c .if2 .left)))
+
+flags : tie.Need-transforms-at-requires
+flags c κs = let e = ok (c .before .before .before .before) in (e .index, e .flags)
+
+derives : tie.Need-derive-requires
+derives c κs =
+    let k = c .before .before .before in
+    let e = k .before .before .before in
+    let s = start e in
+    let a = s .args in
+    (ok e .grids, (ok e .nnz, (ok e .place, (agrees (a .size) (a .x) (a .y) (a .t8s .now) (given s) (length (a .strengths .now)) (zero e), (k .kind-found .ensures, ok e .room)))))
 
 returns-3 : tie.Need-returns-3
 returns-3 c =
     let f = c .before .before .before .before in
     let m = f .before in
     let k = m .before in
-    let t = k .before .before in
+    let t = k .before in
     let e = t .before .before in
     let s = start e in
     let a = s .args in
-    done (a .size) (a .field) (a .x) (a .y) (a .t8s .now) (given s) _ (a .strengths .now) (k .kind-known .result) _ (zero e) (sym (t .before .untrue-known .ensures) ∙ t .if2 .left) (true-kind k)
+    done (a .size) (a .field) (a .x) (a .y) (a .t8s .now) (given s) _ (a .strengths .now) (k .kind-found .result) _ (zero e) (sym (t .before .untrue-known .ensures) ∙ t .if2 .left) (k .kind-found .ensures)
     (rw (m .mode-of .ensures, f .transforms-at .ensures) at (c .before .before .derive .ensures))
 
 pub derive-known-spec : {M : Type 1} → statement M
 derive-known-spec =
-    tie.close (tie.spec (λ c κs. search needs) returns untrue returns-2 inter (λ c κs. search needs) (λ c κs. search needs) flags derives (λ c. search needs) returns-3)
+    tie.close (tie.spec (λ c κs. search needs) returns untrue returns-2 kinds (λ c κs. search needs) flags derives (λ c. search needs) returns-3)

@@ -7,4 +7,4 @@ returns-2 : tie.Need-returns-2
 returns-2 c = rw (c .before .known .given .1)
 
 pub says-any-spec : {M : Type 1} → statement M
-says-any-spec = tie.close (tie.spec (λ c. search needs) (λ c. search needs) (λ c. search needs) returns-2)
+says-any-spec = tie.close (tie.spec (λ c. search needs) (λ c. search needs) (λ c. search needs) (λ c. search needs) returns-2 (λ c. search needs))

@@ -1,0 +1,23 @@
+-- `graded`: the greater of 2 or 0 and 1 or 0. Assumes nothing.
+use mathlib.Core.Path.{_≡_, refl, _∙_}
+use mathlib.Core.Bool.{Bool, true, false, cond}
+use Prim.Native.Nat.{_+_, _-_}
+use borrow.Author.Needs.{needs}
+use Rattle.motion.proofs.blocks.graded.Statement.{statement}
+use Rattle.motion.proofs.blocks.graded.Tie as tie
+
+greater : (s t : Bool) → cond s 2 0 + (cond t 1 0 - cond s 2 0) ≡ cond s 2 (cond t 1 0)
+greater true true = refl
+greater true false = refl
+greater false true = refl
+greater false false = refl
+
+returns : tie.Need-returns
+returns c =
+    let s = c .before .before .before .args in
+    let a = c .before .before .if-on .ensures in
+    let b = c .before .if-on2 .ensures in
+    c .greatest .ensures ∙ (λ i. a i + (b i - a i)) ∙ greater (s .coded) (s .differs)
+
+pub graded-spec : {M : Type 1} → statement M
+graded-spec = tie.close (tie.spec (λ c κs. search needs) (λ c κs. search needs) (λ c κs. search needs) returns)

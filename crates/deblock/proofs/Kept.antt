@@ -10,10 +10,9 @@ use Rattle.edges.specs.declared.Offsets.{Offsets}
 use Rattle.sizes.specs.declared.Part.{Part}
 use Rattle.sizes.specs.declared.Size.{Size}
 use Rattle.motion.specs.Grids.{Grids}
-use Rattle.strengths.specs.Calls.{DeriveOutcome, untrueKind}
+use Rattle.strengths.specs.Calls.{DeriveOutcome, untrueKnown, untrueKind}
 use Rattle.pictures.specs.Checks.{lent}
 use Rattle.pictures.specs.Rows.{RowOutcome}
-use Rattle.strengths.specs.ByKind.{untrueKnown}
 use Rattle.strengths.specs.declared.kinds.Known.{Known}
 use Rattle.strengths.specs.declared.kinds.Known.the-variants.{Stated, NoKind}
 use Rattle.visits.specs.Promise.{VisitOutcome}

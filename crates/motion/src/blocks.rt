@@ -86,19 +86,6 @@ pub fn bs1_tile(vertical: u8, p: Blk, q: Blk) -> bool
     false
 }
 
-// x, or 0 where it is off.
-fn if_on(on: bool, x: u8) -> u8
-    ensures { λ r. ⌜ r ≡ cond on x 0 ⌝ }
-{
-    if on { x } else { 0 }
-}
-
-fn greatest(a: u8, b: u8) -> u8
-    ensures { λ r. ⌜ r ≡ a + (b - a) ⌝ }
-{
-    if a < b { b } else { a }
-}
-
 // The strength between two inter blocks, of which `coded` says whether one has coefficients: 2, 1 or 0.
 pub fn bs_inter(vertical: u8, coded: bool, p: Blk, q: Blk) -> u8
     ensures { λ r. ⌜ r ≡ interStrength vertical coded p q ⌝ }
@@ -112,11 +99,23 @@ pub fn bs_inter(vertical: u8, coded: bool, p: Blk, q: Blk) -> u8
     0
 }
 
-// 2 or else 1: as the greater of two numbers, since a branch by coefficients would often be mistaken.
+fn value_if(on: bool, n: u8) -> u8
+    ensures { λ r. ⌜ r ≡ cond on n 0 ⌝ }
+{
+    if on { n } else { 0 }
+}
+
+fn larger(a: u8, b: u8) -> u8
+    ensures { λ r. ⌜ r ≡ a + (b - a) ⌝ }
+{
+    if a < b { b } else { a }
+}
+
+// 2 or else 1: as the larger of two numbers, since a branch by coefficients would often be mistaken.
 fn graded(coded: bool, differs: bool) -> u8
     ensures { λ r. ⌜ r ≡ cond coded 2 (cond differs 1 0) ⌝ }
 {
-    greatest(if_on(coded, 2), if_on(differs, 1))
+    larger(value_if(coded, 2), value_if(differs, 1))
 }
 
 // The strength of two inter blocks that hold nothing in list 1, by what they hold in list 0.

@@ -2,7 +2,7 @@
 -- field. BeforeFlags has those of 8x8 flags, BeforePictures those of tables. A change that widens one of them
 -- keeps these laws at the neutral value. Assumes nothing.
 use mathlib.Core.Path.{_≡_, refl, sym, ap, _∙_}
-use mathlib.Core.Bool.{Bool, true, false, cond, _&&_, _||_}
+use mathlib.Core.Bool.{Bool, true, false, cond, not, _&&_, _||_}
 use mathlib.Core.List.{List}
 use Prim.Native.Nat.{ℕ, _+_, _-_, _*_}
 use lib.Dec.{eqb}
@@ -12,8 +12,11 @@ use Rattle.motion.specs.Motion.{interStrength}
 use Rattle.motion.specs.declared.blocks.Blk.{Blk}
 use Rattle.sizes.specs.Entries.{flagAt}
 use Rattle.sizes.specs.declared.Size.{Size}
-use Rattle.strengths.specs.Calls.{answerOf, DeriveOutcome}
+use Rattle.strengths.specs.Calls.{answerOf, untrueKind, untrueFlags, DeriveOutcome}
+use Rattle.strengths.specs.Kinds.{flat, uniform, isKind}
 use Rattle.strengths.specs.Strength.{vertical, edge, qBlock, pBlock, border, skipped, frame, coded, between, strengthAt, written}
+use Rattle.strengths.specs.declared.kinds.Flagged.{Flagged}
+use Rattle.strengths.specs.declared.kinds.Request.{Request}
 
 -- ---- frames: 4 on an outer and 3 on an inner edge beside an intra block; 3 is the most in both directions
 abbrev frameBetween : Bool → Bool → Blk → Blk → ℕ
@@ -53,3 +56,9 @@ module _ (size : Size) (x y : ℕ) (t8s : List ℕ) (g : Grids) (untrue : Bool) 
       × (FrameCall size x y t8s g untrue s n s′ → DeriveOutcome size false x y t8s g untrue s n s′)
   frame-call-before =
       (λ r. record { says = r .says; leaves = r .leaves ∙ spelled }, λ r. record { says = r .says; leaves = r .leaves ∙ sym spelled })
+
+-- ---- check 12 applies where it did when a kind and flags were two definitions
+pub untrue-before : (size : Size) (r : Request) (f : Flagged) (g : Grids)
+    → (untrueKind size r g ≡ not (isKind g (size .w) (r .x) (r .y) (r .kind)))
+    × (untrueFlags (size .w) f g ≡ ((f .flat && not (flat g (size .w) (f .x) (f .y))) || (f .uniform && not (uniform g (size .w) (f .x) (f .y)))))
+untrue-before size r f g = (refl, refl)

@@ -20,7 +20,7 @@ use Rattle.motion.specs.declared.blocks.Blk.{Blk}
 use Rattle.strengths.specs.Blocks.{origin, ownBlock, leftBlock, aboveBlock}
 use Rattle.strengths.specs.ByKind.{inside, acrossBy, eitherCoded, isIntra, strengthBy}
 use Rattle.strengths.specs.Checks.{disagree}
-use Rattle.strengths.specs.Edges.{edgeAt, askInner, askOuter, bothInter, asked, byAsked, intraEdge}
+use Rattle.strengths.specs.Edges.{edgeAt, askInner, askOuter, bothInter, askEdge, byAsked, intraEdge}
 use Rattle.strengths.specs.Eights.{acrossFlag, pOdd, qOdd}
 use Rattle.strengths.specs.Inner.{filled}
 use Rattle.strengths.specs.Kinds.{isKind}
@@ -63,7 +63,7 @@ module _ (k s : ℕ) (m : k % 4 ≡ 0) (l : k < 32) (h : s < 4) where
   pub q-odd : cond (vertical k) s (edge k) % 2 ≡ qOdd (k + s)
   q-odd = sym (λ i. cond (same-vertical i) (same-segment i) (same-edge i) % 2)
 
-  pub same-asked : (kind : MbKind) (mode : Mode) (t8 : Bool) (inter : List ℕ) (w x y : ℕ) → asked kind mode t8 inter w x y (k + s) ≡ asked kind mode t8 inter w x y k
+  pub same-asked : (kind : MbKind) (mode : Mode) (t8 : Bool) (inter : List ℕ) (w x y : ℕ) → askEdge kind mode t8 inter w x y (k + s) ≡ askEdge kind mode t8 inter w x y k
   same-asked kind mode t8 inter w x y =
       λ i. cond ((eqb (same-edge i) 0 && eqb (cond (same-vertical i) x y) 0) || (t8 && eqb (same-edge i % 2) 1)) (Same 0)
       (cond (eqb (same-edge i) 0)
@@ -87,7 +87,7 @@ module _ (k s : ℕ) (m : k % 4 ≡ 0) (l : k < 32) (h : s < 4) where
     p-place = λ i. q-place i - cond (sym same-vertical i) 1 (4 * w)
 
 -- ---- where the blocks of segment s stand, by the edge's way: there are both, and they lie in the grids
-pub record Placed (w x y k s : ℕ) (d : Edge) : Type 0 where
+pub record Located (w x y k s : ℕ) (d : Edge) : Type 0 where
   pub q : d .q + s * d .along ≡ qBlock w x y (k + s)
   pub p : d .q + s * d .along - d .back ≡ pBlock w x y (k + s)
   pub there : d .back ≤ d .q + s * d .along
@@ -95,8 +95,8 @@ pub record Placed (w x y k s : ℕ) (d : Edge) : Type 0 where
   pub p-row : cond (d .down) s (d .«from» + 1) % 2 ≡ pOdd (k + s)
   pub q-row : cond (d .down) s (d .«from») % 2 ≡ qOdd (k + s)
 
-pub placed : (w x y k s : ℕ) (d : Edge) → k % 4 ≡ 0 → k < 32 → s < 4 → x < w → d ≡ edgeAt w x y k → border x y k ≡ false → Placed w x y k s d
-placed w x y k s d m l h c e b =
+pub located : (w x y k s : ℕ) (d : Edge) → k % 4 ≡ 0 → k < 32 → s < 4 → x < w → d ≡ edgeAt w x y k → border x y k ≡ false → Located w x y k s d
+located w x y k s d m l h c e b =
     rw e
     (record {
       q = q-place k s m l h w x y;
@@ -132,7 +132,7 @@ isSame (Same v) = true
 isSame Coded = false
 isSame Moving = false
 
-pub asked-there : (kind : MbKind) (mode : Mode) (t8 : Bool) (inter : List ℕ) (w x y k : ℕ) → isSame (asked kind mode t8 inter w x y k) ≡ false → border x y k ≡ false
+pub asked-there : (kind : MbKind) (mode : Mode) (t8 : Bool) (inter : List ℕ) (w x y k : ℕ) → isSame (askEdge kind mode t8 inter w x y k) ≡ false → border x y k ≡ false
 asked-there kind mode t8 inter w x y k = go (border x y k)
   where
     go : (b : Bool) → isSame (cond (b || skipped t8 k) (Same 0) (cond (eqb (edge k) 0) (askOuter mode (vertical k) (bothInter inter w x y k)) (askInner kind))) ≡ false → b ≡ false
@@ -193,7 +193,7 @@ module _ (g : Grids) (w x y : ℕ) (agree : disagree (g .inter) w x y ≡ false)
     outer-is false l v c p q = refl
 
     pub asked-is : strengthBy kind mode g w t x y k
-        ≡ byAsked (mode .limit) (asked kind mode (t .own) (g .inter) w x y k) (eitherCoded (g .nnz) w t x y k) (blkAt g (pBlock w x y k)) (blkAt g (qBlock w x y k))
+        ≡ byAsked (mode .limit) (askEdge kind mode (t .own) (g .inter) w x y k) (eitherCoded (g .nnz) w t x y k) (blkAt g (pBlock w x y k)) (blkAt g (qBlock w x y k))
     unfolding strengthBy between
     asked-is = cases (border x y k || skipped (t .own) k) refl
       where
@@ -221,7 +221,7 @@ module _ (g : Grids) (w x y : ℕ) (agree : disagree (g .inter) w x y ≡ false)
 
   module _ (kind : MbKind) (mode : Mode) (t : Transforms) (k : ℕ) where
     -- .. of all four bytes, by what is asked of the first
-    pub four-by : (m : k % 4 ≡ 0) (l : k < 32) (to : ℕ) (bytes : List ℕ) (n : Asked) → asked kind mode (t .own) (g .inter) w x y k ≡ n
+    pub four-by : (m : k % 4 ≡ 0) (l : k < 32) (to : ℕ) (bytes : List ℕ) (n : Asked) → askEdge kind mode (t .own) (g .inter) w x y k ≡ n
         → filled 4 to (λ s. byAsked (mode .limit) n (eitherCoded (g .nnz) w t x y (k + s)) (blkAt g (pBlock w x y (k + s))) (blkAt g (qBlock w x y (k + s)))) bytes
         ≡ filled 4 to (λ s. strengthBy kind mode g w t x y (k + s)) bytes
     four-by m l to bytes n e = upTo-same 4 _ _ bytes (λ s u h. ap (λ (v : ℕ). set u (to + s) v) (one s h))

@@ -12,9 +12,10 @@ use Rattle.laws.proofs.Some.{some-not, every-same, every-and, every-not}
 use Rattle.motion.specs.Grids.{Grids, counted, blockRead, blkAt}
 use Rattle.motion.specs.Motion.{sameMotion}
 use Rattle.strengths.specs.Blocks.{origin, ownBlock, leftBlock, aboveBlock}
+use Rattle.strengths.specs.Calls.{untrueKnown}
 use Rattle.strengths.specs.Checks.{differs, disagree}
 use Rattle.strengths.specs.Kinds.{everyOwn, uniform, flat, isKind}
-use Rattle.strengths.specs.ByKind.{firstInter, kindBy, kindOf, asksMotion, untrueBy, untrueKnown, kindKnown}
+use Rattle.strengths.specs.ByKind.{firstInter, kindBy, kindOf, asksMotion, untrueBy, kindKnown}
 use Rattle.strengths.specs.declared.kinds.Known.{Known}
 use Rattle.strengths.specs.declared.kinds.Known.the-variants.{Stated, Flags, NoKind}
 use Rattle.strengths.specs.declared.kinds.MbKind.{MbKind}

@@ -16,7 +16,7 @@ use Rattle.motion.specs.Grids.{refAt, motionAt, blockRead}
 use Rattle.motion.specs.Motion.{equalMotion, sameMotion}
 use Rattle.motion.specs.Pictures.{namedBy}
 use Rattle.motion.proofs.GridParts.{motion-none}
-use Rattle.strengths.specs.Inner.{storedAt, oneStored}
+use Rattle.strengths.specs.Inner.{storedMotion, oneStored}
 
 -- ---- one list
 module _ (refs mvs : List ℤ) (at stride : ℕ) where
@@ -46,14 +46,14 @@ module _ (refs mvs : List ℤ) (at stride : ℕ) where
   unfolding oneStored namedBy
   none-stored h k = sym (every-is 4 _ (λ i l. every-is 4 _ (λ j m. alike (at + i * stride + j))))
     where
-      alike : (i : ℕ) → equalMotion (storedAt refs mvs i) (storedAt refs mvs at) ≡ true
+      alike : (i : ℕ) → equalMotion (storedMotion refs mvs i) (storedMotion refs mvs at) ≡ true
       alike i =
           let e = sym (motion-none [] refs mvs i h k) in
           let f = sym (motion-none [] refs mvs at h k) in
           λ j. equalMotion (e j) (f j)
 
   stored-at : oneStored refs mvs at stride ≡ true → (j k : ℕ) → j < 4 → k < 4
-      → equalMotion (storedAt refs mvs (at + j * stride + k)) (storedAt refs mvs at) ≡ true
+      → equalMotion (storedMotion refs mvs (at + j * stride + k)) (storedMotion refs mvs at) ≡ true
   unfolding oneStored
   stored-at e j k h l = every-at 4 k _ (every-at 4 j _ e h) l
 
@@ -62,7 +62,7 @@ named-one : (pictures : List ℤ) (r s : ℤ) → eqZ r s ≡ true → eqZ (name
 named-one pictures r s e =
     ap (λ (z : ℤ). eqZ (namedBy pictures r) (namedBy pictures z)) (sym (eqZ→eq r s (subst T (sym e) tt))) ∙ eqZ-self (namedBy pictures r)
 
-motion-one : (pictures refs mvs : List ℤ) (i n : ℕ) → equalMotion (storedAt refs mvs i) (storedAt refs mvs n) ≡ true
+motion-one : (pictures refs mvs : List ℤ) (i n : ℕ) → equalMotion (storedMotion refs mvs i) (storedMotion refs mvs n) ≡ true
     → equalMotion (motionAt pictures refs mvs i) (motionAt pictures refs mvs n) ≡ true
 motion-one pictures refs mvs i n e =
     let h = and-true _ _ e in

@@ -11,7 +11,6 @@ use Rattle.motion.specs.Motion.{interStrength}
 use Rattle.motion.specs.declared.blocks.Blk.{Blk}
 use Rattle.strengths.specs.Blocks.{origin}
 use Rattle.strengths.specs.Eights.{acrossFlag, codedBy, pOdd, qOdd}
-use Rattle.strengths.specs.Kinds.{uniform, flat, isKind}
 use Rattle.strengths.specs.Strength.{vertical, edge, qBlock, pBlock, border, skipped, outerIntra, between}
 use Rattle.strengths.specs.declared.eights.Transforms.{Transforms}
 use Rattle.strengths.specs.declared.kinds.Known.{Known}
@@ -43,7 +42,7 @@ isIntra InterUniform = false
 isIntra Inter = false
 
 -- ---- what a caller says: whether it says anything, whether motion and counts tell that it is untrue, whether
--- it is by what the own blocks show or of the grids, and the kind to go by
+-- it is by what the own blocks show, and the kind to go by
 abbrev pub saysAny : Known → Bool
 saysAny (Stated kind) = true
 saysAny (Flags flat uniform) = flat || uniform
@@ -61,11 +60,6 @@ abbrev pub untrueBy : Known → Bool → Bool → Bool → Bool
 untrueBy (Stated kind) first same counted = not (kindBy kind first same counted)
 untrueBy (Flags flat uniform) first same counted = (flat && not (first && same && not counted)) || (uniform && not (first && same))
 untrueBy NoKind first same counted = true
-
-abbrev pub untrueKnown : Known → Grids → ℕ → ℕ → ℕ → Bool
-untrueKnown (Stated kind) g w x y = not (isKind g w x y kind)
-untrueKnown (Flags a u) g w x y = (a && not (flat g w x y)) || (u && not (uniform g w x y))
-untrueKnown NoKind g w x y = true
 
 abbrev pub kindKnown : Known → Bool → MbKind
 kindKnown (Stated kind) first = kind

@@ -4,7 +4,7 @@
 -- where `field` is true, else of a frame. No check and no answer depends on which.
 use Prim.Native.Nat.{ℕ, _+_, _*_}
 use mathlib.Core.Path.{_≡_}
-use mathlib.Core.Bool.{Bool, false, cond, not, _&&_, _||_}
+use mathlib.Core.Bool.{Bool, true, false, cond, not, _&&_, _||_}
 use mathlib.Core.List.{List, [], _∷_, _++_}
 use lib.Dec.{eqb}
 use lib.ListN.{length}
@@ -16,6 +16,8 @@ use Rattle.strengths.specs.Checks.{badByMacroblock, badBlocks, badInter,
 use Rattle.strengths.specs.Kinds.{isKind, flat, uniform}
 use Rattle.strengths.specs.Strength.{modeOf, strengthAt, written}
 use Rattle.sizes.specs.declared.Size.{Size}
+use Rattle.strengths.specs.declared.kinds.Known.{Known}
+use Rattle.strengths.specs.declared.kinds.Known.the-variants.{Stated, Flags, NoKind}
 use Rattle.strengths.specs.declared.kinds.Request.{Request}
 use Rattle.strengths.specs.declared.kinds.Flagged.{Flagged}
 
@@ -43,12 +45,17 @@ deriveChecks size x y t8s g n = lengthChecks size x y t8s g n ++ valueChecks siz
 unfoldable pub answerOf : Size → ℕ → ℕ → List ℕ → Grids → Bool → ℕ → ℕ
 answerOf size x y t8s g untrue n = refusal (deriveChecks size x y t8s g n ++ ((12, untrue) ∷ []))
 
--- the kind, or a flag that is set, is not true of the grids
+-- what is said is not true of the grids: a kind, flags that are set, or a kind that is none
+abbrev pub untrueKnown : Known → Grids → ℕ → ℕ → ℕ → Bool
+untrueKnown (Stated kind) g w x y = not (isKind g w x y kind)
+untrueKnown (Flags a u) g w x y = (a && not (flat g w x y)) || (u && not (uniform g w x y))
+untrueKnown NoKind g w x y = true
+
 abbrev pub untrueKind : Size → Request → Grids → Bool
-untrueKind size r g = not (isKind g (size .w) (r .x) (r .y) (r .kind))
+untrueKind size r g = untrueKnown (Stated (r .kind)) g (size .w) (r .x) (r .y)
 
 abbrev pub untrueFlags : ℕ → Flagged → Grids → Bool
-untrueFlags w r g = (r .flat && not (flat g w (r .x) (r .y))) || (r .uniform && not (uniform g w (r .x) (r .y)))
+untrueFlags w r g = untrueKnown (Flags (r .flat) (r .uniform)) g w (r .x) (r .y)
 
 -- ---- an outcome: the answer n, and the grid before and after. A refusal leaves it as it was; else the 32
 -- bytes of the macroblock are written and no other

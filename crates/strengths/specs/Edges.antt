@@ -1,6 +1,6 @@
--- Apart: no promise to a caller of the public calls rests on it. How the code goes about the four strengths of
--- an edge, which are bytes k to k + 3 where k is a multiple of 4: what they depend on is asked once, of byte k.
--- That each is then `strengthBy` is the law `asked-is`.
+-- Apart: no promise to a caller of the public calls rests on it. How the code goes about the four strengths
+-- of an edge, which are bytes k to k + 3 where k is a multiple of 4: what they depend on is asked once, of
+-- byte k. That each is then `strengthBy` is the law `asked-is`.
 use Prim.Native.Nat.{ℕ, _+_, _-_, _*_}
 use mathlib.Core.Bool.{Bool, cond, _&&_, _||_}
 use mathlib.Core.List.{List, []}
@@ -46,8 +46,8 @@ askOuter mode left both = cond both Moving (Same (outerIntra mode left))
 abbrev pub bothInter : List ℕ → ℕ → ℕ → ℕ → ℕ → Bool
 bothInter inter w x y k = eqb (getD inter (origin w x y - cond (vertical k) 1 (4 * w)) 0) 1 && eqb (getD inter (origin w x y) 0) 1
 
-abbrev pub asked : MbKind → Mode → Bool → List ℕ → ℕ → ℕ → ℕ → ℕ → Asked
-asked kind mode t8 inter w x y k =
+abbrev pub askEdge : MbKind → Mode → Bool → List ℕ → ℕ → ℕ → ℕ → ℕ → Asked
+askEdge kind mode t8 inter w x y k =
     cond (border x y k || skipped t8 k) (Same 0)
     (cond (eqb (edge k) 0) (askOuter mode (vertical k) (bothInter inter w x y k)) (askInner kind))
 

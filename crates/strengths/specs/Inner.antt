@@ -1,6 +1,6 @@
 -- Apart: no promise to a caller of the public calls rests on it. What functions of this crate ask of the
--- place, what they write, what a walk looks for at a place of a grid, and what the quick test of the own blocks
--- compares.
+-- place, what they write, what a walk looks for at a place of a grid, and what the quick test of the own
+-- blocks compares.
 use Prim.Native.Nat.{ℕ, _+_, _*_, _<_}
 use mathlib.Core.Bool.{Bool}
 use mathlib.Core.List.{List}
@@ -36,10 +36,10 @@ placesOf (Above top) bytes refs = length bytes
 placesOf BelowNone bytes refs = length refs
 
 -- a list's reference and vector of block i as they are stored, whatever the reference names
-abbrev pub storedAt : List ℤ → List ℤ → ℕ → Motion
-storedAt refs mvs i = vectorAt (refAt refs i) mvs i
+abbrev pub storedMotion : List ℤ → List ℤ → ℕ → Motion
+storedMotion refs mvs i = vectorAt (refAt refs i) mvs i
 
 -- they are one for the 4 by 4 blocks from `at` on
 unfoldable pub oneStored : List ℤ → List ℤ → ℕ → ℕ → Bool
 oneStored refs mvs at stride =
-    every 4 (λ j. every 4 (λ k. equalMotion (storedAt refs mvs (at + j * stride + k)) (storedAt refs mvs at)))
+    every 4 (λ j. every 4 (λ k. equalMotion (storedMotion refs mvs (at + j * stride + k)) (storedMotion refs mvs at)))

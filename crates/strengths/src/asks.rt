@@ -3,7 +3,7 @@ ghost use mathlib.Core.Path.{_≡_};
 ghost use mathlib.Core.Bool.{cond, _||_};
 ghost use lib.Dec.{ltb};
 ghost use lib.ListN.{length};
-ghost use Rattle.strengths.specs.Edges.{askInner, askOuter, asked, intraEdge};
+ghost use Rattle.strengths.specs.Edges.{askInner, askOuter, askEdge, intraEdge};
 ghost use Rattle.strengths.specs.Inner.{InGrids};
 ghost use Rattle.strengths.specs.Strength.{border, skipped};
 use crate::kinds::Asked;
@@ -64,7 +64,7 @@ pub fn ask(
 ) -> Asked
     requires { ⌜ InGrids w x y (length (now inter)) ⌝ }
     requires { ⌜ InGrids w x y 589824 ⌝ }
-    ensures { λ r. ⌜ r ≡ asked kind mode t8 (now (inter .entry)) w x y k ⌝ }
+    ensures { λ r. ⌜ r ≡ askEdge kind mode t8 (now (inter .entry)) w x y k ⌝ }
 {
     if no_edge(t8, x, y, k) {
         return Asked::Same(0);

@@ -18,8 +18,8 @@ use motion::blocks::bs_inter;
 use motion::grids::bs_lone;
 use motion::grids::load;
 
-// The block after its first segment, the way from there to the block across and to the next segment's, and
-// which edge it is: vertical or not, and how many blocks from the macroblock's border.
+// Where an edge lies: the block after its first segment, the steps from there back to the block across and
+// along to the next segment's, and which edge it is: vertical or not, and how many blocks from the border.
 pub struct Edge {
     pub q: usize,
     pub back: usize,
@@ -45,14 +45,16 @@ fn edge_at(w: usize, x: usize, y: usize, k: usize) -> Edge
     }
 }
 
-// A row is odd: of a vertical edge the segment's, else one that stands so far from the border.
+// 1 where a block's row is odd: of a vertical edge that is the segment's, else it stands so far from the
+// border.
 fn odd_row(down: bool, s: usize, from: usize) -> usize
     ensures { λ r. ⌜ r ≡ cond down s from % 2 ⌝ }
 {
     if down { s % 2 } else { from % 2 }
 }
 
-// A block beside it has coefficients: p before the edge or q after it. One up from a row is as one down.
+// A block beside segment s has coefficients: p before the edge or q after it. Where neither macroblock is 8x8
+// their own counts tell. Of a row it matters whether it is odd, and one up from a row is as one down.
 fn coded_beside(
     t: Transforms,
     w: usize,
@@ -123,8 +125,8 @@ pub fn four_coded(
     }
 }
 
-// By motion in one list without a table, as most pictures have it: small enough for the compiler to write it out four
-// times.
+// By motion in one list without a table, as most pictures have it: small enough for the compiler to write it
+// out four times.
 fn four_lone(
     limit: u8,
     t: Transforms,

@@ -30,15 +30,15 @@ const EIGHT_BY_EIGHT: Content = Content { t8s: true, ..ONE_LIST };
 
 /// Of an intra macroblock whose kind it is told the original copies a constant: a ratio to that has no bound.
 pub const CONTENTS: [Content; 9] = [
-    Content { name: "intra", bounds: [None, Some(0.95), Some(0.85)], kinds: &[Kind::Intra], ..ONE_LIST },
-    Content { name: "skip", bounds: [Some(2.9), Some(1.35), Some(1.3)], kinds: &[Kind::Skip], ..ONE_LIST },
-    Content { name: "uniform", bounds: [Some(2.2), Some(1.5), Some(1.2)], kinds: &[Kind::InterUniform], ..ONE_LIST },
-    Content { name: "one list", bounds: [Some(1.4), Some(1.7), Some(1.5)], kinds: &[Kind::Inter], ..ONE_LIST },
-    Content { name: "two lists", bounds: [Some(1.1), Some(1.2), Some(1.15)], kinds: &[Kind::Inter], ..TWO_LISTS },
-    Content { name: "mixture, one list", bounds: [Some(2.0), Some(1.35), Some(1.2)], ..ONE_LIST },
-    Content { name: "mixture, two lists", bounds: [Some(1.45), Some(1.15), Some(1.05)], ..TWO_LISTS },
-    Content { name: "mixture, two tables", bounds: [Some(1.6), Some(1.3), Some(1.15)], ..TWO_TABLES },
-    Content { name: "mixture, 8x8", bounds: [Some(2.0), Some(1.35), Some(1.2)], ..EIGHT_BY_EIGHT },
+    Content { name: "intra", bounds: [None, Some(0.65), Some(0.65)], kinds: &[Kind::Intra], ..ONE_LIST },
+    Content { name: "skip", bounds: [Some(2.3), Some(1.1), Some(1.0)], kinds: &[Kind::Skip], ..ONE_LIST },
+    Content { name: "uniform", bounds: [Some(1.75), Some(1.2), Some(0.95)], kinds: &[Kind::InterUniform], ..ONE_LIST },
+    Content { name: "one list", bounds: [Some(1.15), Some(1.4), Some(1.25)], kinds: &[Kind::Inter], ..ONE_LIST },
+    Content { name: "two lists", bounds: [Some(1.0), Some(1.0), Some(1.0)], kinds: &[Kind::Inter], ..TWO_LISTS },
+    Content { name: "mixture, one list", bounds: [Some(1.6), Some(1.1), Some(1.0)], ..ONE_LIST },
+    Content { name: "mixture, two lists", bounds: [Some(1.15), Some(0.9), Some(0.85)], ..TWO_LISTS },
+    Content { name: "mixture, two tables", bounds: [Some(1.3), Some(1.0), Some(0.95)], ..TWO_TABLES },
+    Content { name: "mixture, 8x8", bounds: [Some(1.65), Some(1.2), Some(1.05)], ..EIGHT_BY_EIGHT },
 ];
 
 impl Content {

@@ -7,7 +7,7 @@ use mathlib.Core.List.{List}
 use native.Mathlib.Omega.{arith}
 use Rattle.motion.specs.Grids.{Grids, grids}
 use Rattle.strengths.specs.ByKind.{eitherCoded, strengthBy}
-use Rattle.strengths.specs.Edges.{asked, byAsked}
+use Rattle.strengths.specs.Edges.{askEdge, byAsked}
 use Rattle.strengths.specs.Inner.{filled}
 use Rattle.strengths.specs.Strength.{border}
 use Rattle.strengths.specs.declared.kinds.Asked.{Asked}
@@ -23,7 +23,7 @@ first : (j : ℕ) → 4 * j % 4 ≡ 0
 first j = omega arith
 
 -- what is asked, in the match's words
-asks : (c : tie.After-ask) (n : Asked) → c .ask .result ≡ n → let a = c .before .before .before .before .args in asked (a .kind) (a .mode) (a .t .own) (a .inter .now) (a .w) (a .x) (a .y) (4 * a .j) ≡ n
+asks : (c : tie.After-ask) (n : Asked) → c .ask .result ≡ n → let a = c .before .before .before .before .args in askEdge (a .kind) (a .mode) (a .t .own) (a .inter .now) (a .w) (a .x) (a .y) (4 * a .j) ≡ n
 asks c n e = sym (c .ask .ensures) ∙ e
 
 there : (c : tie.After-ask) (n : Asked) → isSame n ≡ false → c .ask .result ≡ n → let a = c .before .before .before .before .args in border (a .x) (a .y) (4 * a .j) ≡ false

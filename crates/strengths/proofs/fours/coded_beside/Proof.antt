@@ -11,15 +11,15 @@ use Rattle.strengths.specs.Eights.{acrossFlag, pOdd, qOdd, codedBy, InCo
 use Rattle.strengths.specs.Strength.{border, pBlock, qBlock}
 use Rattle.strengths.specs.declared.fours.Edge.{Edge}
 use Rattle.strengths.proofs.CodedBlocks.{p-counts, q-counts}
-use Rattle.strengths.proofs.Edges.{Placed, placed, same-border, same-flag}
+use Rattle.strengths.proofs.Edges.{Located, located, same-border, same-flag}
 use Rattle.strengths.proofs.fours.coded_beside.Statement.{statement}
 use Rattle.strengths.proofs.fours.coded_beside.Tie as tie
 
-place : (c : tie.Start) → let a = c .args in Placed (a .w) (a .x) (a .y) (a .k) (a .s) (a .d)
+place : (c : tie.Start) → let a = c .args in Located (a .w) (a .x) (a .y) (a .k) (a .s) (a .d)
 place c =
     let a = c .args in
     let p = c .pre in
-    placed (a .w) (a .x) (a .y) (a .k) (a .s) (a .d) (p .1 .1 .0 .0) (p .1 .1 .0 .1) (p .1 .1 .1 .1) (p .1 .0 .column) (p .1 .1 .1 .0 .0) (p .1 .1 .1 .0 .1)
+    located (a .w) (a .x) (a .y) (a .k) (a .s) (a .d) (p .1 .1 .0 .0) (p .1 .1 .0 .1) (p .1 .1 .1 .1) (p .1 .0 .column) (p .1 .1 .1 .0 .0) (p .1 .1 .1 .0 .1)
 
 edge-there : (c : tie.Start) → let a = c .args in border (a .x) (a .y) (a .k + a .s) ≡ false
 edge-there c =

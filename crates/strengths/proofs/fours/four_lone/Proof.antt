@@ -13,7 +13,7 @@ use Rattle.motion.specs.Grids.{motionAt}
 use Rattle.motion.specs.Inner.{loneStrength}
 use mathlib.Core.List.{[]}
 use Rattle.strengths.specs.Edges.{loneBy}
-use Rattle.strengths.proofs.Edges.{Placed, placed}
+use Rattle.strengths.proofs.Edges.{Located, located}
 use Rattle.strengths.proofs.fours.four_lone.Statement.{statement}
 use Rattle.strengths.proofs.fours.four_lone.Tie as tie
 
@@ -26,13 +26,13 @@ Inv limit t w x y nnz ref0 mv0 k strengths₀ to d s₀ strengths s =
 abbrev μ : tie.MeasureT-loop
 μ limit t w x y nnz ref0 mv0 k strengths₀ to d s₀ strengths s = 4 - s
 
-place : (c : tie.In-loop Inv μ) → let e = c .before .before in let a = e .before .before .before .args in Placed (a .w) (a .x) (a .y) (a .k) (c .before .loop .s) (e .edge-at .result)
+place : (c : tie.In-loop Inv μ) → let e = c .before .before in let a = e .before .before .before .args in Located (a .w) (a .x) (a .y) (a .k) (c .before .loop .s) (e .edge-at .result)
 place c =
     let e = c .before .before in
     let s = e .before .before .before in
     let a = s .args in
     let p = s .pre in
-    placed (a .w) (a .x) (a .y) (a .k) (c .before .loop .s) (e .edge-at .result) (p .1 .1 .1 .0 .0) (p .1 .1 .1 .0 .1) (omega arith) (p .0 .column) (e .edge-at .ensures) (p .1 .1 .1 .1 .0)
+    located (a .w) (a .x) (a .y) (a .k) (c .before .loop .s) (e .edge-at .result) (p .1 .1 .1 .0 .0) (p .1 .1 .1 .0 .1) (omega arith) (p .0 .column) (e .edge-at .ensures) (p .1 .1 .1 .1 .0)
 
 room : (c : tie.Start Inv μ) (s : ℕ) → s < 4 → Fits w64 (c .args .to + s)
 room c s h = search needs

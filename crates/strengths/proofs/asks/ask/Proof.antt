@@ -3,16 +3,14 @@
 use borrow.Author.Needs.{needs}
 use borrow.Author.Tests.{eq-eqb, ne-eqb}
 use mathlib.Core.Path.{_≡_, sym, _∙_}
-use mathlib.Core.Bool.{Bool, false, cond, _&&_, _||_}
-use Prim.Native.Nat.{_-_, _*_, _≤_}
-use native.Mathlib.Omega.{arith}
+use mathlib.Core.Bool.{false, cond, _&&_, _||_}
+use Prim.Native.Nat.{_-_, _≤_}
 use lib.Dec.{eqb}
 use lib.ListN.{getD}
 use Rattle.laws.proofs.Bools.{or-false}
 use Rattle.strengths.specs.Blocks.{origin}
 use Rattle.strengths.specs.Edges.{askInner, askOuter, bothInter}
 use Rattle.strengths.specs.Strength.{vertical, border, skipped}
-use Rattle.strengths.specs.declared.kinds.Asked.{Asked}
 use Rattle.strengths.specs.declared.kinds.Asked.the-variants.{Same}
 use Rattle.strengths.proofs.Edges.{outer-there}
 use Rattle.strengths.proofs.asks.ask.Statement.{statement}

@@ -1,8 +1,8 @@
 -- `intra_edge`: the same tests as the definition. Assumes nothing.
 use borrow.Author.Needs.{needs}
 use borrow.Author.Tests.{eq-eqb, ne-eqb, lt-ltb, le-ltb}
-use mathlib.Core.Path.{_≡_, sym, _∙_}
-use mathlib.Core.Bool.{Bool, cond}
+use mathlib.Core.Path.{sym, _∙_}
+use mathlib.Core.Bool.{cond}
 use Rattle.strengths.specs.Strength.{outerIntra, vertical}
 use Rattle.strengths.proofs.asks.intra_edge.Statement.{statement}
 use Rattle.strengths.proofs.asks.intra_edge.Tie as tie

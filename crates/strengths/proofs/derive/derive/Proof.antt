@@ -2,7 +2,6 @@
 use borrow.Author.Needs.{needs}
 use Prim.Native.Nat.{ℕ, _+_, _*_}
 use mathlib.Core.Path.{sym, ap, _∙_}
-use native.Mathlib.Omega.{arith}
 use lib.ListN.{set}
 use Rattle.laws.proofs.Loop.{upTo-same}
 use Rattle.motion.specs.Grids.{grids}

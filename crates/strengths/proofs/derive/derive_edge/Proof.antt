@@ -1,17 +1,14 @@
 -- `derive_edge`: what is asked of the first byte gives all four. Assumes nothing.
 use borrow.Author.Needs.{needs}
-use Prim.Native.Nat.{ℕ, _+_, _*_, _%_, _<_}
+use Prim.Native.Nat.{ℕ, _*_, _%_}
 use mathlib.Core.Path.{_≡_, sym, ap, _∙_}
 use mathlib.Core.Bool.{false}
-use mathlib.Core.List.{List}
 use native.Mathlib.Omega.{arith}
 use Rattle.motion.specs.Grids.{Grids, grids}
-use Rattle.strengths.specs.ByKind.{eitherCoded, strengthBy}
-use Rattle.strengths.specs.Edges.{askEdge, byAsked}
-use Rattle.strengths.specs.Inner.{filled}
+use Rattle.strengths.specs.Edges.{askEdge}
 use Rattle.strengths.specs.Strength.{border}
 use Rattle.strengths.specs.declared.kinds.Asked.{Asked}
-use Rattle.strengths.specs.declared.kinds.Asked.the-variants.{Same, Coded, Moving}
+use Rattle.strengths.specs.declared.kinds.Asked.the-variants.{Coded, Moving}
 use Rattle.strengths.proofs.Edges.{isSame, asked-there, four-by}
 use Rattle.strengths.proofs.derive.derive_edge.Statement.{statement}
 use Rattle.strengths.proofs.derive.derive_edge.Tie as tie

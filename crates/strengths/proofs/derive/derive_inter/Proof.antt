@@ -1,9 +1,8 @@
 -- `derive_inter`: one edge a turn, and the eight are the 32 bytes. Assumes nothing.
-use borrow.Author.Needs.{needs}
-use Prim.Native.Nat.{ℕ, _+_, _*_, _-_, _≤_, _<_}
-use mathlib.Core.Path.{_≡_, sym, ap, _∙_}
+use Prim.Native.Nat.{ℕ, _+_, _*_, _-_, _≤_}
+use mathlib.Core.Path.{_≡_, ap, _∙_}
 use native.Mathlib.Omega.{arith}
-use lib.ListN.{length, set}
+use lib.ListN.{length}
 use Rattle.laws.specs.Loop.{upTo}
 use Rattle.laws.proofs.Loop.{upTo-more, loops}
 use Rattle.motion.specs.Grids.{grids}

@@ -1,14 +1,13 @@
 -- `coded_beside`: the blocks, their rows and their flags are those of the definition. Assumes nothing.
 use borrow.Author.Needs.{needs}
 use borrow.Author.Tests.{not-true}
-use mathlib.Core.Path.{_≡_, sym, ap, subst, _∙_}
+use mathlib.Core.Path.{_≡_, sym, subst, _∙_}
 use mathlib.Core.Bool.{Bool, true, false, _||_}
 use Prim.Native.Nat.{ℕ, _+_, _*_, _/_, _%_, _≤_}
 use native.Mathlib.Omega.{arith}
-use lib.ListN.{length}
 use Rattle.laws.proofs.Bools.{or-false}
 use Rattle.strengths.specs.Eights.{acrossFlag, pOdd, qOdd, codedBy, InCounts}
-use Rattle.strengths.specs.Strength.{border, pBlock, qBlock}
+use Rattle.strengths.specs.Strength.{border}
 use Rattle.strengths.specs.declared.fours.Edge.{Edge}
 use Rattle.strengths.proofs.CodedBlocks.{p-counts, q-counts}
 use Rattle.strengths.proofs.Edges.{Located, located, same-border, same-flag}

@@ -3,28 +3,21 @@ use mathlib.Core.Path.{_≡_, sym, _∙_}
 use mathlib.Core.Bool.{Bool, true, false}
 use mathlib.Core.List.{List}
 use Prim.Native.Nat.{ℕ, _-_, _*_, _<_}
-use native.Mathlib.Decide.{ℕ-discrete}
 use native.Mathlib.Omega.{arith}
-use borrow.Author.Tests.{eq-eqb, ne-eqb, ltb-true, lt-ltb}
+use borrow.Author.Tests.{eq-eqb, ltb-true, lt-ltb}
 use lib.Dec.{ltb}
 use lib.ListN.{length}
 use Rattle.laws.proofs.Bools.{true-false}
+use Rattle.laws.specs.Refusal.{orElse}
+use Rattle.laws.proofs.Refusal.{or-else-0}
 use Rattle.sizes.specs.Sizes.{badSize}
 use Rattle.sizes.specs.declared.Size.{Size}
 use Rattle.visits.specs.Beyond.{Bits}
-use Rattle.visits.specs.Visit.{orElse}
 use Rattle.finality.specs.declared.Finality.{Finality}
 use Rattle.finality.specs.Final.{finalityOf, ifThere, finalsOf, Final}
 use Rattle.finality.proofs.Exactly.{never-refused, yes-exactly, yes-tells}
 
 -- ---- numbers and answers of the three
-or-else-0 : (n m : ℕ) → orElse n m ≡ 0 → (n ≡ 0) × (m ≡ 0)
-or-else-0 n m e = go (ℕ-discrete n 0)
-  where
-    go : Dec (n ≡ 0) → (n ≡ 0) × (m ≡ 0)
-    go (yes z) = (z, rw (eq-eqb n 0 z) at e)
-    go (no h) = absurd (h (rw (ne-eqb n 0 h) at e))
-
 there-yes : (t : Bool) (f : Finality) → ifThere t f .yes ≡ true → (t ≡ true) × (f .yes ≡ true)
 there-yes true f e = (λ i. true, e)
 there-yes false f e = absurd (true-false (sym e))

@@ -5,12 +5,12 @@ use mathlib.Core.Bool.{Bool, false, cond, not, _&&_, _||_}
 use mathlib.Core.List.{List, [], _∷_, _++_}
 use lib.Dec.{eqb, ltb}
 use lib.ListN.{length, getD}
-use Rattle.laws.specs.Refusal.{refusal}
+use Rattle.laws.specs.Refusal.{refusal, orElse}
 use Rattle.sizes.specs.Sizes.{badSize, outsideOf}
 use Rattle.sizes.specs.declared.Size.{Size}
 use Rattle.visits.specs.AnyOrder.{Visited}
 use Rattle.visits.specs.Checks.{badMark}
-use Rattle.visits.specs.Visit.{marked, orElse}
+use Rattle.visits.specs.Visit.{marked}
 use Rattle.finality.specs.declared.Finality.{Finality}
 use Rattle.finality.specs.declared.Finals.{Finals}
 

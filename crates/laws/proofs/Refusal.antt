@@ -1,12 +1,14 @@
--- Laws of a chain of checks: it may be cut in two, and what the answer 0 tells. Assumes nothing.
+-- Laws of a chain of checks, which may be cut in two, and of answers one after the other: what 0 tells.
+-- Assumes nothing.
 use mathlib.Core.Path.{_≡_, refl, sym, ap, _∙_}
 use mathlib.Core.Bool.{Bool, true, false, cond, _&&_}
 use mathlib.Core.List.{List, [], _∷_, _++_}
 use Prim.Native.Nat.{ℕ}
-use borrow.Author.Tests.{ne-eqb}
+use borrow.Author.Tests.{eq-eqb, ne-eqb}
+use native.Mathlib.Decide.{ℕ-discrete}
 use native.Mathlib.Omega.{arith}
 use lib.Dec.{T, eqb, ltb, ltb→lt}
-use Rattle.laws.specs.Refusal.{refusal}
+use Rattle.laws.specs.Refusal.{refusal, orElse}
 use Rattle.laws.proofs.Bools.{and-parts}
 
 -- no check has the number 0, which means that none applies. It looks at no test: for a list of literal
@@ -80,3 +82,17 @@ skip n {m} {k} e f = f ∙ sym (λ i. cond (e i) n k)
 
 pub stop : (n k : ℕ) {b : Bool} → b ≡ true → n ≡ cond b n k
 stop n k e = sym (λ i. cond (e i) n k)
+
+-- ---- one answer, or a later one: a refusal stays, the later one follows 0, and 0 tells that both are
+pub or-else-kept : (n m : ℕ) → (n ≡ 0 → ⊥) → orElse n m ≡ n
+or-else-kept n m h = ap (λ (b : Bool). cond b m n) (ne-eqb n 0 h)
+
+pub or-else-next : {n m k : ℕ} → n ≡ 0 → k ≡ m → k ≡ orElse n m
+or-else-next {n} {m} z e = e ∙ sym (ap (λ (j : ℕ). orElse j m) z)
+
+pub or-else-0 : (n m : ℕ) → orElse n m ≡ 0 → (n ≡ 0) × (m ≡ 0)
+or-else-0 n m e = go (ℕ-discrete n 0)
+  where
+    go : Dec (n ≡ 0) → (n ≡ 0) × (m ≡ 0)
+    go (yes z) = (z, rw (eq-eqb n 0 z) at e)
+    go (no h) = absurd (h (rw (ne-eqb n 0 h) at e))

@@ -10,7 +10,7 @@ use native.Mathlib.Omega.{arith}
 use borrow.Author.Tests.{leb-false, eq-eqb}
 use lib.Dec.{eqb, leb}
 use lib.ListN.{length}
-use Rattle.laws.specs.Refusal.{refusal}
+use Rattle.laws.specs.Refusal.{refusal, orElse}
 use Rattle.laws.proofs.Bools.{or-false, true-false}
 use Rattle.edges.specs.Picture.{Planes}
 use Rattle.edges.specs.declared.Offsets.{Offsets}
@@ -20,7 +20,7 @@ use Rattle.sizes.specs.Sizes.{outsideOf, badPlanes}
 use Rattle.slices.specs.Slicing.{Slicing, badNumberCount, badSliceOffset, someBadNumber, badSliceMode}
 use Rattle.slices.specs.Table.{badOffsets}
 use Rattle.pictures.specs.Checks.{Lent, lent, badLent, badQp, Reads}
-use Rattle.visits.specs.Visit.{At, State, marked, waiting, orElse, answer, visit}
+use Rattle.visits.specs.Visit.{At, State, marked, waiting, answer, visit}
 use Rattle.visits.specs.Beyond.{Bits}
 use Rattle.visits.specs.Checks.{earlyIn, earlyOf, visitReads, visitChecks, Sound, Fit}
 use Rattle.visits.specs.Late.{SameShape, Legal}

@@ -7,7 +7,7 @@ use Prim.Native.Nat.{ℕ, _+_, _-_, _*_, _<_}
 use native.Mathlib.Omega.{arith}
 use lib.Dec.{T, eqb, leb, ltb, ltb→lt}
 use lib.ListN.{length, getD}
-use Rattle.laws.specs.Refusal.{refusal}
+use Rattle.laws.specs.Refusal.{refusal, orElse}
 use Rattle.laws.proofs.Bools.{and-parts, guarded}
 use Rattle.laws.proofs.Grid.{row-pos}
 use Rattle.laws.proofs.Some.{some-same}
@@ -17,7 +17,7 @@ use Rattle.sizes.specs.Sizes.{outsideOf}
 use Rattle.slices.specs.Slicing.{Slicing, badNumberCount, badNumber, someBadNumber}
 use Rattle.pictures.specs.Checks.{Lent, badQp, badStrength, someBad, someBadFlag, someBadStrength, pictureChecks, gridChecks}
 use Rattle.sizes.specs.Entries.{badFlag}
-use Rattle.visits.specs.Visit.{At, State, waiting, orElse, answer, visit}
+use Rattle.visits.specs.Visit.{At, State, waiting, answer, visit}
 use Rattle.visits.specs.Checks.{earlyIn, earlyOf, badMark, badMarks, badAround}
 use Rattle.visits.specs.Late.{tableOf, numbersOf, SameKind, both-single, both-sliced, SameEntry, ofRequest, SameAround, SameMarks, SameSight}
 use Rattle.visits.specs.Promise.{visitOf}

@@ -12,7 +12,8 @@ use lib.ListN.{getD, set}
 use Rattle.laws.specs.Loop.{upTo}
 use Rattle.laws.specs.Grid.{Near, is-left, is-up, is-up-right}
 use Rattle.laws.proofs.Grid.{index-lt}
-use Rattle.visits.specs.Visit.{At, State, Call, fresh, marked, waiting, orElse, answer, serve, visit, VisitOutcomeOf, itself}
+use Rattle.laws.specs.Refusal.{orElse}
+use Rattle.visits.specs.Visit.{At, State, Call, fresh, marked, waiting, answer, serve, visit, VisitOutcomeOf, itself}
 use Rattle.visits.specs.AnyOrder.{AnyOrder, Demand3, Waits}
 use Rattle.visits.specs.Old.{oldVisit}
 use Rattle.visits.proofs.Marks.{fresh-none}

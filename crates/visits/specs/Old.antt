@@ -3,7 +3,8 @@
 use Prim.Native.Nat.{ℕ}
 use mathlib.Core.Bool.{Bool, cond, _||_}
 use mathlib.Core.List.{List, [], _∷_}
-use Rattle.visits.specs.Visit.{At, State, Call, marked, lacksLeft, lacksUpper, orElse, serve}
+use Rattle.laws.specs.Refusal.{orElse}
+use Rattle.visits.specs.Visit.{At, State, Call, marked, lacksLeft, lacksUpper, serve}
 
 unfoldable pub oldWaiting : ℕ → List ℕ → ℕ → ℕ → Bool
 oldWaiting W ms x y = lacksLeft W ms x y || lacksUpper W ms x y

@@ -6,6 +6,7 @@ use mathlib.Core.Bool.{Bool, cond, not, _&&_, _||_}
 use mathlib.Core.List.{List, [], _∷_}
 use lib.Dec.{eqb, ltb}
 use lib.ListN.{getD, set, replicate}
+use Rattle.laws.specs.Refusal.{orElse}
 
 -- a request: the column x and the row y
 abbrev pub At : Type 0
@@ -36,10 +37,6 @@ lacksUpperRight W ms x y = ltb 0 y && ltb (x + 1) W && not (marked W ms (x + 1) 
 -- one of the three
 unfoldable pub waiting : ℕ → List ℕ → ℕ → ℕ → Bool
 waiting W ms x y = lacksLeft W ms x y || lacksUpper W ms x y || lacksUpperRight W ms x y
-
--- the first check that applies: its number, or that of the checks after it
-abbrev pub orElse : ℕ → ℕ → ℕ
-orElse n later = cond (eqb n 0) later n
 
 -- a visit as anyone may write it: from the state and the request its answer, and the state afterwards. An
 -- answer, of whatever kind A, holds a number: 0, or that of the check by which the visit is refused

@@ -2,7 +2,7 @@
 use borrow.Author.Needs.{needs}
 use mathlib.Core.Path.{ap, _∙_}
 use Prim.Native.Nat.{ℕ}
-use Rattle.visits.specs.Visit.{orElse}
+use Rattle.laws.specs.Refusal.{orElse}
 use Rattle.finality.specs.Final.{finals}
 use Rattle.finality.proofs.calls.join.Statement.{statement}
 use Rattle.finality.proofs.calls.join.Tie as tie

@@ -13,11 +13,12 @@ use Rattle.motion.specs.Grids.{Grids}
 use Rattle.strengths.specs.Calls.{DeriveOutcome, untrueKnown, untrueKind}
 use Rattle.pictures.specs.Checks.{lent}
 use Rattle.pictures.specs.Rows.{RowOutcome}
+use Rattle.strengths.specs.Kinds.{kindNumber, knownNumber}
 use Rattle.strengths.specs.declared.kinds.Known.{Known}
 use Rattle.strengths.specs.declared.kinds.Known.the-variants.{Stated, NoKind}
 use Rattle.visits.specs.Promise.{VisitOutcome}
 use Rattle.visits.specs.Visit.{At, State}
-use Rattle.deblock.specs.Numbers.{request, kindNumber, untrueNumber}
+use Rattle.deblock.specs.Numbers.{request, untrueNumber}
 
 -- ---- the part and the offsets
 module _ (size : Size) {part part′ : Part} {o o′ : Offsets} (s q t : List ℕ) where
@@ -34,7 +35,7 @@ pub kind-kept : (size : Size) (field : Bool) (x y : ℕ) (t8s : List ℕ) (g : G
 kind-kept size field x y t8s g s n s′ e h = subst (λ (u : Bool). DeriveOutcome size field x y t8s g u s n s′) e h
 
 -- what a number says is as untrue as the number
-pub number-known : (size : Size) (x y k : ℕ) (g : Grids) (known : Known) → known ≡ cond (ltb 3 k) NoKind (Stated (kindNumber k)) → untrueKnown known g (size .w) x y ≡ untrueNumber size x y k g
+pub number-known : (size : Size) (x y k : ℕ) (g : Grids) (known : Known) → known ≡ knownNumber k → untrueKnown known g (size .w) x y ≡ untrueNumber size x y k g
 number-known size x y k g known e = ap (λ (n : Known). untrueKnown n g (size .w) x y) e ∙ go (ltb 3 k)
   where
     go : (b : Bool) → untrueKnown (cond b NoKind (Stated (kindNumber k))) g (size .w) x y ≡ (b || untrueKind size (request x y (kindNumber k)) g)

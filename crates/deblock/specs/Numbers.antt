@@ -10,9 +10,9 @@ use Rattle.sizes.specs.declared.Size.{Size}
 use Rattle.slices.specs.declared.ChromaOffsets.{ChromaOffsets}
 use Rattle.motion.specs.Grids.{Grids}
 use Rattle.strengths.specs.Calls.{untrueKind}
+use Rattle.strengths.specs.Kinds.{kindNumber}
 use Rattle.strengths.specs.declared.kinds.Flagged.{Flagged}
 use Rattle.strengths.specs.declared.kinds.MbKind.{MbKind}
-use Rattle.strengths.specs.declared.kinds.MbKind.the-variants.{Intra, Skip, InterUniform, Inter}
 use Rattle.strengths.specs.declared.kinds.Request.{Request}
 
 -- a picture's sides
@@ -43,10 +43,6 @@ flagged x y flat uniform = record { x = x; y = y; flat = isSet flat; uniform = i
 -- .. with its kind
 abbrev pub request : ℕ → ℕ → MbKind → Request
 request x y kind = record { x = x; y = y; kind = kind }
-
--- the kind that a number up to 3 stands for
-abbrev pub kindNumber : ℕ → MbKind
-kindNumber k = cond (eqb k 0) Intra (cond (eqb k 1) Skip (cond (eqb k 2) InterUniform Inter))
 
 -- 12: a number above 3 is a kind that is true of no grids
 abbrev pub untrueNumber : Size → ℕ → ℕ → ℕ → Grids → Bool

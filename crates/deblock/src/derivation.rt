@@ -1,18 +1,14 @@
 // The strength calls, for C.
-ghost use mathlib.Core.Path.{_≡_};
-ghost use mathlib.Core.Bool.{cond};
-ghost use lib.Dec.{ltb};
 ghost use Rattle.motion.specs.Grids.{grids};
-ghost use Rattle.strengths.specs.Calls.{DeriveOutcome, FlagsOutcome, PlainOutcome};
-ghost use Rattle.strengths.specs.declared.kinds.Known.the-variants.{Stated, NoKind};
-ghost use Rattle.deblock.specs.Numbers.{sizeOf, isSet, flagged, kindNumber, untrueNumber};
+ghost use Rattle.strengths.specs.Calls.{DeriveOutcome, FlagsOutcome, PlainOutcome, DeriveRowOutcome};
+ghost use Rattle.deblock.specs.Numbers.{sizeOf, isSet, flagged, untrueNumber};
 use sizes::Size;
 use strengths::calls::derive_known;
 use strengths::calls::derive_mb;
 use strengths::calls::derive_mb_bs;
+use strengths::calls::derive_row;
 use strengths::kinds::Flagged;
-use strengths::kinds::Known;
-use strengths::kinds::MbKind;
+use strengths::kinds::known_of_number;
 
 // Strengths of a macroblock of which nothing is known.
 #[no_mangle]
@@ -101,32 +97,6 @@ pub extern "C" fn deblock_strengths_flags<'a>(
     )
 }
 
-// The kind that a number up to 3 stands for.
-fn kind_of_number(k: u8) -> MbKind
-    ensures { λ r. ⌜ r ≡ kindNumber k ⌝ }
-{
-    if k == 0 {
-        return MbKind::Intra;
-    }
-    if k == 1 {
-        return MbKind::Skip;
-    }
-    if k == 2 {
-        return MbKind::InterUniform;
-    }
-    MbKind::Inter
-}
-
-// What any number says.
-fn known_of_number(k: u8) -> Known
-    ensures { λ r. ⌜ r ≡ cond (ltb 3 k) NoKind (Stated (kindNumber k)) ⌝ }
-{
-    if 3 < k {
-        return Known::NoKind;
-    }
-    Known::Stated(kind_of_number(k))
-}
-
 // Strengths of a macroblock whose kind is known. A number above 3 is a kind that is true of no grids.
 #[no_mangle]
 pub extern "C" fn deblock_strengths_kind<'a>(
@@ -156,6 +126,46 @@ pub extern "C" fn deblock_strengths_kind<'a>(
         x,
         y,
         known_of_number(kind),
+        t8s,
+        inter,
+        nnz,
+        ref0,
+        mv0,
+        ref1,
+        mv1,
+        pictures0,
+        pictures1,
+        strengths,
+    )
+}
+
+// Strengths of a row of macroblocks. Of their kinds, those of all macroblocks of the picture are lent, or none.
+#[no_mangle]
+pub extern "C" fn deblock_strengths_row<'a>(
+    w: usize,
+    h: usize,
+    field: u8,
+    y: usize,
+    kinds: &[u8],
+    t8s: &[u8],
+    inter: &[u8],
+    nnz: &[u8],
+    ref0: &[i8],
+    mv0: &'a [i16],
+    ref1: &[i8],
+    mv1: &'a [i16],
+    pictures0: &[i32],
+    pictures1: &[i32],
+    strengths: &mut [u8],
+) -> u32
+    ensures { λ n. ⌜ DeriveRowOutcome (sizeOf w h) (isSet field) y (now (kinds .entry)) (now (t8s .entry)) (grids (now (inter .entry)) (now (nnz .entry)) (now (ref0 .entry)) (now (mv0 .entry)) (now (ref1 .entry)) (now (mv1 .entry)) (now (pictures0 .entry)) (now (pictures1 .entry))) (now (strengths .entry)) n (now (strengths .exit)) ⌝ }
+{
+    let size = Size { w, h };
+    derive_row(
+        size,
+        field != 0,
+        y,
+        kinds,
         t8s,
         inter,
         nnz,

@@ -204,7 +204,7 @@ module _ (size : Size) (field : Bool) (x y : ℕ) {t8s t8s′ : List ℕ} {g g�
         where
           go : Dec (n ≡ 0) → left-by t8s g ≡ left-by t8s′ g′
           go (yes z) =
-              let p = passed-all size field x y t8s g untrue s (sym e ∙ z) in
+              let p = passed-all size x y t8s g (length s) untrue (sym e ∙ z) in
               let inside = passed-derivable size x y t8s g (length s) p .index .column in
               λ j. cond (eqb n 0) (written (y * size .w + x) (λ (k : ℕ). strength-same (alike p) inside k (modeOf field) j) s) s
           go (no h) = rw (ne-eqb n 0 h)

@@ -45,7 +45,7 @@ unfolding strengthAt coded flagAt between blockRead
 horizontal = (refl, refl)
 
 -- ---- two side by side, of which the right one is asked: four rows of 4 blocks each
-abbrev fourRows : {A : Type 0} → List A → List A
+abbrev pub fourRows : {A : Type 0} → List A → List A
 fourRows r = r ++ r ++ r ++ r
 
 -- the left one intra: 4 on the edge between them, and inside the right one, of one motion, 0

@@ -11,6 +11,7 @@ pub mod Edges
 pub mod Examples
 pub mod EightsExamples
 pub mod TablesExamples
+pub mod RowExamples
 pub mod Fields
 pub mod Inclusion
 pub mod DeriveOutcomes
@@ -27,3 +28,5 @@ pub mod Refused
 pub mod EightsRefused
 pub mod TablesRefused
 pub mod Written
+pub mod Along
+pub mod RowOutcomes

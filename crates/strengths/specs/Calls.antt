@@ -1,4 +1,4 @@
--- What the three strength calls promise: one answer and one final content of the strengths grid, for every
+-- What the strength calls promise, three of a macroblock and one of a row: one answer and one final content of the strengths grid, for every
 -- input. The flags t8s and the grids g, with the tables of their lists, are only read. The numbers are those
 -- of docs/RULES.md, "Answers", the strengths those of ITU-T H.264, clause 8.7.2.1 (`strengthAt`): of a field
 -- where `field` is true, else of a frame. No check and no answer depends on which.
@@ -8,12 +8,13 @@ use mathlib.Core.Bool.{Bool, true, false, cond, not, _&&_, _||_}
 use mathlib.Core.List.{List, [], _∷_, _++_}
 use lib.Dec.{eqb}
 use lib.ListN.{length}
-use Rattle.laws.specs.Refusal.{refusal}
+use Rattle.laws.specs.Loop.{upTo}
+use Rattle.laws.specs.Refusal.{refusal, orElse}
 use Rattle.motion.specs.Grids.{Grids}
-use Rattle.sizes.specs.Entries.{flagAt}
+use Rattle.sizes.specs.Entries.{flagAt, badFlagCount}
 use Rattle.sizes.specs.Sizes.{badSize, outsideOf}
 use Rattle.strengths.specs.Checks.{badByMacroblock, badBlocks, badInter, badFlags, badRefs, badPictures, disagree}
-use Rattle.strengths.specs.Kinds.{isKind, flat, uniform}
+use Rattle.strengths.specs.Kinds.{isKind, flat, uniform, knownAt}
 use Rattle.strengths.specs.Strength.{modeOf, strengthAt, written}
 use Rattle.sizes.specs.declared.Size.{Size}
 use Rattle.strengths.specs.declared.kinds.Known.{Known}
@@ -71,3 +72,21 @@ FlagsOutcome size field r t8s g = DeriveOutcome size field (r .x) (r .y) t8s g (
 
 abbrev pub PlainOutcome : Size → Bool → ℕ → ℕ → List ℕ → Grids → List ℕ → ℕ → List ℕ → Type 0
 PlainOutcome size field x y t8s g = DeriveOutcome size field x y t8s g false
+
+-- ---- a row of macroblocks, with a kind for each of the picture's or for none. What macroblock (x, y) answers
+abbrev pub answerAt : Size → ℕ → Known → List ℕ → List ℕ → Grids → ℕ → ℕ → ℕ
+answerAt size y known kinds t8s g n x =
+    answerOf size x y t8s g (untrueKnown (knownAt known kinds (y * size .w + x)) g (size .w) x y) n
+
+-- checks 1, 2 and 4 of the row, then what its macroblocks answer, from the left: the first refusal
+abbrev pub deriveRowChecks : Size → ℕ → List ℕ → List (ℕ × Bool)
+deriveRowChecks size y kinds = (1, badSize size) ∷ (2, outsideOf size 0 y) ∷ (4, badFlagCount (size .w * size .h) (length kinds)) ∷ []
+
+unfoldable pub deriveRowAnswer : Size → ℕ → List ℕ → List ℕ → Grids → ℕ → ℕ
+deriveRowAnswer size y kinds t8s g n =
+    upTo (size .w) (λ x a. orElse a (answerAt size y (Flags false false) kinds t8s g n x)) (refusal (deriveRowChecks size y kinds))
+
+-- a refusal leaves the grid as it was; else the bytes of all macroblocks of the row are written and no other
+pub record DeriveRowOutcome (size : Size) (field : Bool) (y : ℕ) (kinds t8s : List ℕ) (g : Grids) (s : List ℕ) (n : ℕ) (s′ : List ℕ) : Type 0 where
+  pub says : n ≡ deriveRowAnswer size y kinds t8s g (length s)
+  pub leaves : s′ ≡ cond (eqb n 0) (upTo (size .w) (λ x. written (y * size .w + x) (strengthAt (modeOf field) g (size .w) (flagAt t8s) x y)) s) s

@@ -1,98 +1,18 @@
-// The three strength calls: of a field where `field` is true, else of a frame. None asks anything of its
-// caller; a refusal changes no byte.
+// The strength calls, of a macroblock and of a row: of a field where `field` is true, else of a frame. None
+// asks anything of its caller; a refusal changes no byte.
 ghost use mathlib.Core.Path.{_≡_};
-ghost use mathlib.Core.Bool.{true, false};
-ghost use Prim.Native.Nat.{_+_};
+ghost use Rattle.laws.specs.Refusal.{refusal};
 ghost use Rattle.motion.specs.Grids.{grids};
-ghost use Rattle.motion.specs.Inner.{Hold};
-ghost use Rattle.strengths.specs.Blocks.{ownBlock};
-ghost use Rattle.strengths.specs.Inner.{InGrids};
-ghost use Rattle.strengths.specs.Checks.{disagree};
-ghost use lib.ListN.{length};
-ghost use Rattle.strengths.specs.Kinds.{isKind};
-ghost use Rattle.strengths.specs.Calls.{untrueKnown, DeriveOutcome, KindOutcome, FlagsOutcome, PlainOutcome};
-use crate::checks::refuse_derive;
-use crate::derive::derive;
-use crate::eights::transforms_at;
+ghost use Rattle.strengths.specs.Calls.{untrueKnown, deriveRowChecks, DeriveOutcome, KindOutcome, FlagsOutcome, PlainOutcome, DeriveRowOutcome};
 use crate::kinds::Flagged;
 use crate::kinds::Known;
-use crate::kinds::MbKind;
 use crate::kinds::Request;
-use crate::kinds::asks_motion;
-use crate::kinds::kind_known;
-use crate::kinds::kind_of;
-use crate::kinds::mode_of;
-use crate::kinds::says_any;
-use crate::kinds::untrue_by;
-use crate::own::own_same;
-use crate::stored::own_alike;
-use crate::walks::Sought;
-use crate::walks::own_have;
+use crate::stretches::derive_stretch;
 use sizes::Size;
+use sizes::bad_size;
+use sizes::entries::bad_flag_count;
 
-// Check 12: what is said is not true of the grids. Motion and counts are looked at only where they tell.
-fn untrue_known<'a>(
-    known: Known,
-    w: usize,
-    x: usize,
-    y: usize,
-    inter: &[u8],
-    nnz: &[u8],
-    ref0: &[i8],
-    mv0: &'a [i16],
-    ref1: &[i8],
-    mv1: &'a [i16],
-    pictures0: &[i32],
-    pictures1: &[i32],
-) -> bool
-    requires { ⌜ Hold (now inter) (now ref0) (now mv0) (now ref1) (now mv1) (ownBlock w x y 3 3 + 1) ⌝ }
-    requires { ⌜ InGrids w x y (length (now nnz)) ⌝ }
-    requires { ⌜ InGrids w x y 589824 ⌝ }
-    requires { ⌜ disagree (now inter) w x y ≡ false ⌝ }
-    ensures { λ r. ⌜ r ≡ untrueKnown known (grids (now (inter .entry)) (now (nnz .entry)) (now (ref0 .entry)) (now (mv0 .entry)) (now (ref1 .entry)) (now (mv1 .entry)) (now (pictures0 .entry)) (now (pictures1 .entry))) w x y ⌝ }
-{
-    let at = 16 * (y * w) + 4 * x;
-    if !asks_motion(known) {
-        return untrue_by(known, inter[at] == 1, false, false);
-    }
-    let same = own_same(inter, ref0, mv0, ref1, mv1, pictures0, pictures1, at, 4 * w);
-    let counted = own_have(Sought::Above(0), nnz, ref0, at, 4 * w);
-    untrue_by(known, inter[at] == 1, same, counted)
-}
-
-// The kind to go by, which is true of the grids: where nothing is said and the blocks are inter, by one quick
-// look at their motion.
-fn kind_found<'a>(
-    known: Known,
-    w: usize,
-    x: usize,
-    y: usize,
-    inter: &[u8],
-    nnz: &[u8],
-    ref0: &[i8],
-    mv0: &'a [i16],
-    ref1: &[i8],
-    mv1: &'a [i16],
-    pictures0: &[i32],
-    pictures1: &[i32],
-) -> MbKind
-    requires { ⌜ Hold (now inter) (now ref0) (now mv0) (now ref1) (now mv1) (ownBlock w x y 3 3 + 1) ⌝ }
-    requires { ⌜ InGrids w x y 589824 ⌝ }
-    requires { ⌜ disagree (now inter) w x y ≡ false ⌝ }
-    requires { ⌜ untrueKnown known (grids (now inter) (now nnz) (now ref0) (now mv0) (now ref1) (now mv1) (now pictures0) (now pictures1)) w x y ≡ false ⌝ }
-    ensures { λ r. ⌜ isKind (grids (now (inter .entry)) (now (nnz .entry)) (now (ref0 .entry)) (now (mv0 .entry)) (now (ref1 .entry)) (now (mv1 .entry)) (now (pictures0 .entry)) (now (pictures1 .entry))) w x y r ≡ true ⌝ }
-{
-    let at = 16 * (y * w) + 4 * x;
-    let first = inter[at] == 1;
-    if first & !says_any(known) {
-        let alike = own_alike(ref0, mv0, ref1, mv1, at, 4 * w);
-        return kind_of(true, false, alike);
-    }
-    kind_known(known, first)
-}
-
-// What they have in common: checks 1 to 12, then the strengths. The only caller of the checks and of
-// `derive`, so that all becomes one function, which does not hand slices on.
+// Strengths of a macroblock of which something may be known: a stretch of one.
 pub fn derive_known<'a>(
     size: Size,
     field: bool,
@@ -112,64 +32,16 @@ pub fn derive_known<'a>(
 ) -> u32
     ensures { λ n. ⌜ DeriveOutcome size field x y (now (t8s .entry)) (grids (now (inter .entry)) (now (nnz .entry)) (now (ref0 .entry)) (now (mv0 .entry)) (now (ref1 .entry)) (now (mv1 .entry)) (now (pictures0 .entry)) (now (pictures1 .entry))) (untrueKnown known (grids (now (inter .entry)) (now (nnz .entry)) (now (ref0 .entry)) (now (mv0 .entry)) (now (ref1 .entry)) (now (mv1 .entry)) (now (pictures0 .entry)) (now (pictures1 .entry))) (size .w) x y) (now (strengths .entry)) n (now (strengths .exit)) ⌝ }
 {
-    let w = size.w;
-    let n = refuse_derive(
+    let none: [u8; 0] = [];
+    derive_stretch(
         size,
+        field,
+        x,
         x,
         y,
+        known,
+        &none,
         t8s,
-        strengths.len(),
-        inter,
-        nnz,
-        ref0,
-        mv0,
-        ref1,
-        mv1,
-        pictures0,
-        pictures1,
-    );
-    if n != 0 {
-        return n;
-    }
-    if untrue_known(
-        known,
-        w,
-        x,
-        y,
-        inter,
-        nnz,
-        ref0,
-        mv0,
-        ref1,
-        mv1,
-        pictures0,
-        pictures1,
-    ) {
-        return 12;
-    }
-    let kind = kind_found(
-        known,
-        w,
-        x,
-        y,
-        inter,
-        nnz,
-        ref0,
-        mv0,
-        ref1,
-        mv1,
-        pictures0,
-        pictures1,
-    );
-    let mode = mode_of(field);
-    let t = transforms_at(t8s, w, x, y);
-    derive(
-        kind,
-        mode,
-        t,
-        w,
-        x,
-        y,
         inter,
         nnz,
         ref0,
@@ -179,8 +51,7 @@ pub fn derive_known<'a>(
         pictures0,
         pictures1,
         strengths,
-    );
-    0
+    )
 }
 
 // Strengths of a macroblock whose kind is known.
@@ -292,6 +163,70 @@ pub fn derive_mb<'a>(
         x,
         y,
         known,
+        t8s,
+        inter,
+        nnz,
+        ref0,
+        mv0,
+        ref1,
+        mv1,
+        pictures0,
+        pictures1,
+        strengths,
+    )
+}
+
+// Checks 1, 2 and 4 of a row.
+fn refuse_row(size: Size, y: usize, kinds: &[u8]) -> u32
+    ensures { λ r. ⌜ r ≡ refusal (deriveRowChecks size y (now (kinds .entry))) ⌝ }
+{
+    if bad_size(size) {
+        return 1;
+    }
+    if size.h <= y {
+        return 2;
+    }
+    if bad_flag_count(size.w * size.h, kinds.len()) {
+        return 4;
+    }
+    0
+}
+
+// Strengths of a row of macroblocks, with the kinds of all macroblocks of the picture or none.
+pub fn derive_row<'a>(
+    size: Size,
+    field: bool,
+    y: usize,
+    kinds: &[u8],
+    t8s: &[u8],
+    inter: &[u8],
+    nnz: &[u8],
+    ref0: &[i8],
+    mv0: &'a [i16],
+    ref1: &[i8],
+    mv1: &'a [i16],
+    pictures0: &[i32],
+    pictures1: &[i32],
+    strengths: &mut [u8],
+) -> u32
+    ensures { λ n. ⌜ DeriveRowOutcome size field y (now (kinds .entry)) (now (t8s .entry)) (grids (now (inter .entry)) (now (nnz .entry)) (now (ref0 .entry)) (now (mv0 .entry)) (now (ref1 .entry)) (now (mv1 .entry)) (now (pictures0 .entry)) (now (pictures1 .entry))) (now (strengths .entry)) n (now (strengths .exit)) ⌝ }
+{
+    let n = refuse_row(size, y, kinds);
+    if n != 0 {
+        return n;
+    }
+    let nothing = Known::Flags {
+        flat: false,
+        uniform: false,
+    };
+    derive_stretch(
+        size,
+        field,
+        0,
+        size.w - 1,
+        y,
+        nothing,
+        kinds,
         t8s,
         inter,
         nnz,

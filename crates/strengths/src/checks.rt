@@ -12,7 +12,7 @@ ghost use Rattle.strengths.specs.Inner.{InGrids, soughtAt, placesOf};
 ghost use Rattle.sizes.specs.Inner.{InPicture};
 ghost use Rattle.sizes.specs.Sizes.{badSize, outsideOf};
 ghost use Rattle.strengths.specs.Checks.{badByMacroblock, badLengths, oneTable, badFlags, belowNone, notPicture, badTable, disagree};
-ghost use Rattle.strengths.specs.Calls.{valueChecks, deriveChecks};
+ghost use Rattle.strengths.specs.Calls.{valueChecks};
 use crate::walks::Sought;
 use crate::walks::beside_differ;
 use crate::walks::beside_have;
@@ -154,7 +154,7 @@ pub fn disagreeing(inter: &[u8], w: usize, x: usize, y: usize) -> bool
 }
 
 // Checks 7, 10, 22 and 11, which read values. None of them looks at counts or vectors.
-fn refuse_values(
+pub fn refuse_values(
     size: Size,
     x: usize,
     y: usize,
@@ -191,43 +191,4 @@ fn refuse_values(
         return 11;
     }
     0
-}
-
-// Checks 1 to 11 and 22. `strengths` is the length of the strengths grid.
-pub fn refuse_derive<'a>(
-    size: Size,
-    x: usize,
-    y: usize,
-    t8s: &[u8],
-    strengths: usize,
-    inter: &[u8],
-    nnz: &[u8],
-    ref0: &[i8],
-    mv0: &'a [i16],
-    ref1: &[i8],
-    mv1: &'a [i16],
-    pictures0: &[i32],
-    pictures1: &[i32],
-) -> u32
-    ensures { λ r. ⌜ r ≡ refusal (deriveChecks size x y (now (t8s .entry)) (grids (now (inter .entry)) (now (nnz .entry)) (now (ref0 .entry)) (now (mv0 .entry)) (now (ref1 .entry)) (now (mv1 .entry)) (now (pictures0 .entry)) (now (pictures1 .entry))) strengths) ⌝ }
-{
-    let n = refuse_lengths(
-        size,
-        x,
-        y,
-        t8s.len(),
-        strengths,
-        inter.len(),
-        nnz.len(),
-        ref0.len(),
-        mv0.len(),
-        ref1.len(),
-        mv1.len(),
-        pictures0.len(),
-        pictures1.len(),
-    );
-    if n != 0 {
-        return n;
-    }
-    refuse_values(size, x, y, t8s, inter, ref0, ref1, pictures0, pictures1)
 }

@@ -1,7 +1,12 @@
 // The picture's mode; what a caller may know of a macroblock beforehand, and the requests that carry it
 // beside the coordinates.
 ghost use mathlib.Core.Path.{_≡_};
+ghost use mathlib.Core.Bool.{false};
+ghost use Prim.Native.Nat.{_<_};
+ghost use lib.Dec.{eqb};
+ghost use lib.ListN.{length};
 ghost use Rattle.strengths.specs.ByKind.{isIntra, kindBy, kindOf, asksMotion, saysAny, untrueBy, kindKnown};
+ghost use Rattle.strengths.specs.Kinds.{kindNumber, knownNumber, knownAt};
 ghost use Rattle.strengths.specs.Strength.{modeOf};
 ghost use Rattle.strengths.specs.declared.kinds.Known.the-variants.{Stated};
 
@@ -156,4 +161,43 @@ pub fn kind_known(known: Known, first: bool) -> MbKind
         Known::Flags { flat, uniform } => kind_of(first, flat, uniform),
         Known::NoKind => MbKind::Inter,
     }
+}
+
+// ---- kinds by numbers
+
+// The kind that a number up to 3 stands for.
+fn kind_of_number(k: u8) -> MbKind
+    ensures { λ r. ⌜ r ≡ kindNumber k ⌝ }
+{
+    if k == 0 {
+        return MbKind::Intra;
+    }
+    if k == 1 {
+        return MbKind::Skip;
+    }
+    if k == 2 {
+        return MbKind::InterUniform;
+    }
+    MbKind::Inter
+}
+
+// What any number says.
+pub fn known_of_number(k: u8) -> Known
+    ensures { λ r. ⌜ r ≡ knownNumber k ⌝ }
+{
+    if 3 < k {
+        return Known::NoKind;
+    }
+    Known::Stated(kind_of_number(k))
+}
+
+// What the numbers say of macroblock i, or where none are lent what is known without them.
+pub fn known_at(known: Known, kinds: &[u8], i: usize) -> Known
+    requires { ⌜ (eqb (length (now kinds)) 0 ≡ false → i < length (now kinds)) ⌝ }
+    ensures { λ r. ⌜ r ≡ knownAt known (now (kinds .entry)) i ⌝ }
+{
+    if kinds.len() == 0 {
+        return known;
+    }
+    known_of_number(kinds[i])
 }

@@ -8,8 +8,8 @@ use Rattle.motion.specs.Grids.{Grids, grids}
 use Rattle.motion.proofs.Laws.{hold-less}
 use Rattle.strengths.specs.ByKind.{firstInter, untrueBy}
 use Rattle.strengths.proofs.InterAgrees.{oneMotion, someCounted, known-by, unasked}
-use Rattle.strengths.proofs.calls.untrue_known.Statement.{statement}
-use Rattle.strengths.proofs.calls.untrue_known.Tie as tie
+use Rattle.strengths.proofs.macroblocks.untrue_known.Statement.{statement}
+use Rattle.strengths.proofs.macroblocks.untrue_known.Tie as tie
 
 abbrev given : tie.Start → Grids
 given c = let a = c .args in grids (a .inter .now) (a .nnz .now) (a .ref0 .now) (a .mv0 .now) (a .ref1 .now) (a .mv1 .now) (a .pictures0 .now) (a .pictures1 .now)

@@ -2,9 +2,9 @@
 use borrow.Author.Needs.{needs}
 use borrow.Author.Tests.{lt-ltb, le-ltb}
 use mathlib.Core.Path.{ap}
 use Rattle.strengths.specs.declared.kinds.Known.the-variants.{Stated}
-use Rattle.deblock.proofs.derivation.known_of_number.Statement.{statement}
-use Rattle.deblock.proofs.derivation.known_of_number.Tie as tie
+use Rattle.strengths.proofs.kinds.known_of_number.Statement.{statement}
+use Rattle.strengths.proofs.kinds.known_of_number.Tie as tie
 
 pub known-of-number-spec : {M : Type 1} → statement M
 known-of-number-spec =

@@ -1,7 +1,7 @@
 -- `kind_of_number`: the tests are those of the definition. Assumes nothing.
 use borrow.Author.Tests.{eq-eqb, ne-eqb}
-use Rattle.deblock.proofs.derivation.kind_of_number.Statement.{statement}
-use Rattle.deblock.proofs.derivation.kind_of_number.Tie as tie
+use Rattle.strengths.proofs.kinds.kind_of_number.Statement.{statement}
+use Rattle.strengths.proofs.kinds.kind_of_number.Tie as tie
 
 returns : tie.Need-returns
 returns c = simp (eq-eqb _ 0 (c .if1 .taken))

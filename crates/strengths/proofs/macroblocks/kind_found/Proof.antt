@@ -11,8 +11,8 @@ use Rattle.strengths.specs.Blocks.{origin}
 use Rattle.strengths.specs.Kinds.{isKind}
 use Rattle.strengths.proofs.InterAgrees.{known-kind, found-kind}
 use Rattle.strengths.proofs.OwnAlike.{one-motion}
-use Rattle.strengths.proofs.calls.kind_found.Statement.{statement}
-use Rattle.strengths.proofs.calls.kind_found.Tie as tie
+use Rattle.strengths.proofs.macroblocks.kind_found.Statement.{statement}
+use Rattle.strengths.proofs.macroblocks.kind_found.Tie as tie
 
 abbrev given : tie.Start → Grids
 given c = let a = c .args in grids (a .inter .now) (a .nnz .now) (a .ref0 .now) (a .mv0 .now) (a .ref1 .now) (a .mv1 .now) (a .pictures0 .now) (a .pictures1 .now)

@@ -170,9 +170,9 @@ static inline void must_be_done(uint32_t answer)
     must(answer == DEBLOCK_DONE, deblock_answer_text(answer));
 }
 
-/* All strengths of a picture whose data are all there. */
+/* All strengths of a picture whose data are all there, row by row. */
 static inline void derive_all(const struct deblock_picture *p, const struct deblock_grids *g)
 {
-    for (size_t i = 0; i < N; i++)
-        must_be_done(deblock_picture_strengths(p, g, i % W, i / W));
+    for (size_t y = 0; y < H; y++)
+        must_be_done(deblock_picture_strengths_row(p, g, y, NULL, 0));
 }

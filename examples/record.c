@@ -122,8 +122,8 @@ static void record(FILE *file, const uint8_t *before, const struct deblock_pictu
 static uint32_t filter(const struct deblock_picture *p, const struct deblock_grids *g)
 {
     uint32_t answer = DEBLOCK_DONE;
-    for (size_t i = 0; i < N && answer == DEBLOCK_DONE; i++)
-        answer = deblock_picture_strengths(p, g, i % W, i / W);
+    for (size_t y = 0; y < H && answer == DEBLOCK_DONE; y++)
+        answer = deblock_picture_strengths_row(p, g, y, NULL, 0);
     if (answer != DEBLOCK_DONE)
         return answer;
     return has_slices(p) ? deblock_picture_whole_slices(p) : deblock_picture_whole(p);

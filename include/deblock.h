@@ -1,10 +1,10 @@
 /* The deblocking filter's C interface: C99 and later, C++17. docs/RULES.md states the rules that it keeps;
  * docs/GUIDE.md, "From C", says how it is used and linked.
  *
- * The archive has fifteen flat calls: six that filter, three of them with slices, two that tell which
- * macroblocks are final, three that derive strengths, and four for pictures kept as YUV4MPEG2 streams. Each
+ * The archive has sixteen flat calls: six that filter, three of them with slices, two that tell which
+ * macroblocks are final, four that derive strengths, and four for pictures kept as YUV4MPEG2 streams. Each
  * is proved to do what its contract in crates/deblock/src says, for every content of the memory lent. At the
- * end of this file are eleven functions over structs, which hand the structs' members on to the first eleven
+ * end of this file are twelve functions over structs, which hand the structs' members on to the first twelve
  * of them: start there. They are compiled with the caller and are not proved; examples/tests looks at every
  * argument that they hand on. The four of streams are short and have none.
  *
@@ -39,6 +39,7 @@
  *                                from top to bottom), then 16 of horizontal ones (from left to right)
  *   qps                      n   0 to 51
  *   t8s                 n or 0   1 where the transform is 8x8, else 0; length 0 means that none is
+ *   kinds               n or 0   what is known, of enum deblock_kind; length 0 means that nothing is
  *   marks                    n   1 where visited, else 0; all 0 at the start of a picture
  *   inter, nnz, ref0    16 * n   per 4x4 block, 4 * w blocks a row: 1 if inter, else 0; count of luma
  *                                coefficients; reference, -1 where unused, as in intra blocks
@@ -75,21 +76,21 @@
 #include <stdint.h>
 
 #define DEBLOCK_VERSION_MAJOR 0
-#define DEBLOCK_VERSION_MINOR 9
+#define DEBLOCK_VERSION_MINOR 10
 #define DEBLOCK_VERSION_PATCH 0
-#define DEBLOCK_VERSION "0.9.0"
+#define DEBLOCK_VERSION "0.10.0"
 
 /* What a call answers. Checks are made in the order of this list, each call making those whose data it takes;
  * the first that applies is the answer. The numbers are not in that order: 19 is asked between 2 and 3, 20
- * and 21 after 9, and 22 between 10 and 11. The calls of streams have orders of their own, which are said
- * with them. */
+ * and 21 after 9, and 22 between 10 and 11. The calls of streams and deblock_strengths_row have orders of
+ * their own, which are said with them. */
 enum deblock_answer {
     DEBLOCK_DONE = 0,
     DEBLOCK_BAD_SIZE = 1,               /* w, h or their product is outside its range */
-    DEBLOCK_OUTSIDE = 2,                /* macroblock outside the picture, or not first <= last <= h */
+    DEBLOCK_OUTSIDE = 2,                /* macroblock or row outside the picture, or not first <= last <= h */
     DEBLOCK_BAD_PARITY = 19,            /* the part is none of enum deblock_part */
     DEBLOCK_PLANE_LENGTH = 3,           /* a plane has the wrong length */
-    DEBLOCK_MACROBLOCK_GRID_LENGTH = 4, /* strengths, qps, t8s, marks or numbers have the wrong length */
+    DEBLOCK_MACROBLOCK_GRID_LENGTH = 4, /* strengths, qps, t8s, kinds, marks or numbers have a wrong length */
     DEBLOCK_BLOCK_GRID_LENGTH = 5,      /* a 4x4 grid has the wrong length, just one of list 1 is empty, or
                                            just one list's table, unless list 1's, and list 1 is not lent */
     DEBLOCK_BAD_OFFSET = 6,             /* an offset, or a or b of a record, used or not, is not -12..12 */
@@ -118,7 +119,7 @@ static inline const char *deblock_answer_text(uint32_t answer)
         "width, height or their product is out of range",
         "the macroblock is outside the picture, or the rows are not first <= last <= h",
         "luma, U or V has the wrong length",
-        "strengths, QPs, 8x8 flags, marks or slice numbers have the wrong length",
+        "strengths, QPs, 8x8 flags, kinds, marks or slice numbers have the wrong length",
         "a 4x4 grid has the wrong length, or just one list 1 grid or reference table is empty",
         "an offset is not within -12 to 12",
         "an inter byte, 8x8 flag or mark is not 0 or 1",
@@ -287,12 +288,13 @@ struct deblock_finals {
 struct deblock_finals deblock_made_final(size_t w, size_t h, size_t x, size_t y,
                                          const uint8_t *marks, size_t marks_len);
 
-/* The three strength calls read the 16 blocks of macroblock (x, y), four to the left where x > 0 and four
- * above where y > 0, and write the 32 strengths of the macroblock and no others. t8s is the grid that
- * filtering is lent. Of it they read the macroblock's flag and those of its left and upper neighbours; of a
- * neighbour whose flag is set they read the counts, and nothing else, of the eight nearest blocks in place of
- * four: two columns to the left, two rows above. All these have to be there, flags as well as blocks: a call
- * cannot tell one that has not arrived.
+/* The strength calls read of a macroblock (x, y) its 16 blocks, four to the left where x > 0 and four above
+ * where y > 0, and write the 32 strengths of the macroblock and no others; the first three do so for one
+ * macroblock, the fourth for each of a row. t8s is the grid that filtering is lent. Of it they read the
+ * macroblock's flag and those of its left and upper neighbours; of a neighbour whose flag is set they read
+ * the counts, and nothing else, of the eight nearest blocks in place of four: two columns to the left, two
+ * rows above. All these have to be there, flags as well as blocks: a call cannot tell one that has not
+ * arrived.
  *
  * Where a macroblock's flag is set, its edges 1 and 3 get 0, and a count other than 0 in any of the four
  * blocks of an 8x8 block counts for all four, on both sides of an edge. So a decoder may write the four
@@ -304,7 +306,7 @@ struct deblock_finals deblock_made_final(size_t w, size_t h, size_t x, size_t y,
  * every entry of both tables, and one table a list serves the whole picture: where slices have lists of their
  * own, store pictures' numbers in ref0 and ref1 and lend no tables (docs/GUIDE.md, "Reference lists").
  *
- * Where it answers 0 a call with true flags or with a true kind writes what deblock_strengths writes. field
+ * Where it answers 0 a call with true flags or with true kinds writes what deblock_strengths writes. field
  * other than 0 means that the picture is a field: vectors are then far from a vertical difference of 2
  * quarter samples on, not of 4, and the upper edge of or under an intra macroblock gets 3, not 4. */
 
@@ -340,6 +342,20 @@ uint32_t deblock_strengths_kind(size_t w, size_t h, uint8_t field, size_t x, siz
                                 const int32_t *pictures0, size_t pictures0_len,
                                 const int32_t *pictures1, size_t pictures1_len,
                                 uint8_t *strengths, size_t strengths_len);
+
+/* Strengths of all w macroblocks of row y: of each what deblock_strengths_kind writes with its own kind,
+ * kinds[index], or, where kinds is empty, what deblock_strengths writes. Of kinds it reads the row's. It asks
+ * for 1, for 2 (y is not below h), for 4 of kinds, and then what these calls ask, of one macroblock after the
+ * other from the left: 12 of one comes before 7 of the next. A refusal writes none of the row's strengths.
+ * Writes strengths. Answers 0, 1, 2, 4, 5, 7, 10, 22, 11, 12. */
+uint32_t deblock_strengths_row(size_t w, size_t h, uint8_t field, size_t y,
+                               const uint8_t *kinds, size_t kinds_len, const uint8_t *t8s, size_t t8s_len,
+                               const uint8_t *inter, size_t inter_len, const uint8_t *nnz, size_t nnz_len,
+                               const int8_t *ref0, size_t ref0_len, const int16_t *mv0, size_t mv0_len,
+                               const int8_t *ref1, size_t ref1_len, const int16_t *mv1, size_t mv1_len,
+                               const int32_t *pictures0, size_t pictures0_len,
+                               const int32_t *pictures1, size_t pictures1_len,
+                               uint8_t *strengths, size_t strengths_len);
 
 /* The four calls of streams. The header line is YUV4MPEG2 and then tags, the other line FRAME and then tags
  * or none; a single space stands before each tag and a newline right after the last. A tag is one or more
@@ -377,7 +393,7 @@ uint32_t deblock_y4m_write(size_t w, size_t h, const uint8_t *luma, size_t luma_
 }
 #endif
 
-/* The first eleven calls over structs. Start a struct in static storage or as in `struct deblock_picture p =
+/* The first twelve calls over structs. Start a struct in static storage or as in `struct deblock_picture p =
  * DEBLOCK_NONE;`, and set its members by name. Members that a later version adds are then 0, which will mean
  * what this version does. How these structs are laid out is no part of the archive; how those that calls
  * answer are is.
@@ -587,6 +603,24 @@ static inline uint32_t deblock_picture_strengths_kind(const struct deblock_pictu
                                   g.mv0, g.mv0_len, g.ref1, g.ref1_len, g.mv1, g.mv1_len,
                                   g.pictures0, g.pictures0_len, g.pictures1, g.pictures1_len,
                                   p.strengths, p.strengths_len);
+}
+
+/* kinds: those of the picture, or a null pointer of length 0 where nothing is known. With another length it
+ * must be refused with 4, so here too the strengths go with it. */
+static inline uint32_t deblock_picture_strengths_row(const struct deblock_picture *picture,
+                                                     const struct deblock_grids *grids, size_t y,
+                                                     const uint8_t *kinds, size_t kinds_len)
+{
+    static const uint8_t no_kinds[1] = {0};
+    struct deblock_picture p = deblock_picture_lent(*picture);
+    const struct deblock_grids g = deblock_grids_lent(*grids);
+    if (!kinds && kinds_len) { p.strengths_len = 0; }
+    if (!kinds) { kinds = no_kinds; kinds_len = 0; }
+    return deblock_strengths_row(p.w, p.h, p.part != DEBLOCK_FRAME, y, kinds, kinds_len, p.t8s, p.t8s_len,
+                                 g.inter, g.inter_len, g.nnz, g.nnz_len, g.ref0, g.ref0_len,
+                                 g.mv0, g.mv0_len, g.ref1, g.ref1_len, g.mv1, g.mv1_len,
+                                 g.pictures0, g.pictures0_len, g.pictures1, g.pictures1_len,
+                                 p.strengths, p.strengths_len);
 }
 
 #endif

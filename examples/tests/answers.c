@@ -131,6 +131,36 @@ static void deriving(void)
     expect("motion cut", DEBLOCK_BLOCK_GRID_LENGTH, deblock_picture_strengths(&p, &g, 0, 0));
 }
 
+/* The same of rows. A refusal in the last macroblock leaves the first as it was, and the first one's answer
+ * goes before that of an earlier check of the next. */
+static void deriving_rows(void)
+{
+    static uint8_t of_all[N + 1] = {DEBLOCK_SKIP, DEBLOCK_SKIP, DEBLOCK_INTRA, 4};
+    struct deblock_picture p = lend_picture();
+    struct deblock_grids g = lend_grids();
+    decode();
+    memset(strengths, 9, sizeof strengths);
+    expect("row 0 is skipped", DEBLOCK_DONE, deblock_picture_strengths_row(&p, &g, 0, of_all, N));
+    expect("row 1 is intra", DEBLOCK_UNTRUE, deblock_picture_strengths_row(&p, &g, 1, of_all, N));
+    of_all[2] = DEBLOCK_INTER_UNIFORM;
+    expect("row 1 has a kind 4", DEBLOCK_UNTRUE, deblock_picture_strengths_row(&p, &g, 1, of_all, N));
+    expect("row 0", 1, strengths[32]);
+    expect("row 1", 9, strengths[64]);
+    of_all[0] = DEBLOCK_INTRA;
+    inter[4] = 2;
+    expect("intra before inter 2", DEBLOCK_UNTRUE, deblock_picture_strengths_row(&p, &g, 0, of_all, N));
+    expect("nothing known, inter 2", DEBLOCK_NOT_A_BOOL, deblock_picture_strengths_row(&p, &g, 0, NULL, 0));
+    g.mv0_len--;
+    expect("motion cut", DEBLOCK_BLOCK_GRID_LENGTH, deblock_picture_strengths_row(&p, &g, 0, of_all, N));
+    expect("a kind too few", DEBLOCK_MACROBLOCK_GRID_LENGTH,
+           deblock_picture_strengths_row(&p, &g, 0, of_all, N - 1));
+    expect("a kind too many", DEBLOCK_MACROBLOCK_GRID_LENGTH,
+           deblock_picture_strengths_row(&p, &g, 0, of_all, N + 1));
+    expect("row H", DEBLOCK_OUTSIDE, deblock_picture_strengths_row(&p, &g, H, of_all, N + 1));
+    p.h = 0;
+    expect("no rows", DEBLOCK_BAD_SIZE, deblock_picture_strengths_row(&p, &g, H, of_all, N + 1));
+}
+
 /* What may be said of a macroblock: first of a flat one, then with a coefficient, then with motion too. */
 static void kinds(const struct deblock_picture *p, const struct deblock_grids *g)
 {
@@ -210,6 +240,7 @@ int main(void)
     filtering_with_slices();
     all_offsets();
     deriving();
+    deriving_rows();
     kinds(&p, &g);
     flags(&p, &g);
     parts();

@@ -76,6 +76,9 @@ uint32_t deblock_strengths_flags(size_t w, size_t h, uint8_t field, size_t x, si
 KEEP(105, w, h, field, x, y, flat, uniform, DERIVING_KEPT)
 uint32_t deblock_strengths_kind(size_t w, size_t h, uint8_t field, size_t x, size_t y, uint8_t kind, DERIVING)
 KEEP(106, w, h, field, x, y, kind, DERIVING_KEPT)
+uint32_t deblock_strengths_row(size_t w, size_t h, uint8_t field, size_t y, const uint8_t *k, size_t kl,
+                               DERIVING)
+KEEP(112, w, h, field, y, at(k), kl, DERIVING_KEPT)
 
 /* EXPECT(what, answer, call, arguments..): what a call answers and hands on. */
 static void expect_handed(const char *what, uint32_t answer, uint32_t got, const size_t *want)
@@ -137,6 +140,8 @@ static struct deblock_grids numbered_grids(void)
     return g;
 }
 
+static const uint8_t *const kinds = (uint8_t *)(room + 38);
+
 /* The numbers of the members from t8s to strengths, as strength calls are handed them; of inter bytes and
  * tables those given. */
 #define DERIVED_WITH(inter, inter_len, pictures0, pictures0_len, pictures1, pictures1_len) \
@@ -175,6 +180,7 @@ static void all_others(void)
            1, 2, 1, 8, 9, 0, 1, DERIVED_FROM);
     EXPECT("other bits", 105, deblock_picture_strengths_flags(&p, &g, 8, 9, ~3u),
            1, 2, 1, 8, 9, 0, 0, DERIVED_FROM);
+    EXPECT("row", 112, deblock_picture_strengths_row(&p, &g, 9, kinds, 18), 1, 2, 1, 9, 38, 18, DERIVED_FROM);
 }
 
 /* To the strength calls all parts but the frame are a field. */
@@ -189,6 +195,8 @@ static void parts(void)
         EXPECT("field", 104, deblock_picture_strengths(&p, &g, 8, 9), 1, 2, field, 8, 9);
         EXPECT("field by kind", 106, deblock_picture_strengths_kind(&p, &g, 8, 9, 18), 1, 2, field, 8, 9, 18);
         EXPECT("field by flags", 105, deblock_picture_strengths_flags(&p, &g, 8, 9, 0), 1, 2, field, 8, 9);
+        EXPECT("field by row", 112, deblock_picture_strengths_row(&p, &g, 9, kinds, 18),
+               1, 2, field, 9, 38, 18);
     }
 }
 
@@ -204,6 +212,7 @@ static void all_null(void)
     EXPECT("null marks", 108, deblock_picture_made_final(&p, 8, 9).answer, 1, 2, 8, 9);
     EXPECT("null grids", 104, deblock_picture_strengths(&p, &g, 8, 9), 1, 2, 1, 8, 9);
     EXPECT("no grids", 104, deblock_picture_strengths(&p, &none, 8, 9), 1, 2, 1, 8, 9);
+    EXPECT("null kinds", 112, deblock_picture_strengths_row(&p, &g, 9, NULL, 18), 1, 2, 1, 9);
 }
 
 /* t8s, ref1 and mv1 may be left out; with a length they may not, so something goes with them that may not. */
@@ -223,6 +232,19 @@ static void null_with_a_length(void)
     g.mv1 = NULL;
     EXPECT("mv1", 104, deblock_picture_strengths(&p, &g, 8, 9),
            1, 2, 1, 8, 9, 36, 16, 0, 0, 42, 22, 43, 23, 44, 24, 45, 25, 0, 0, 47, 27, 48, 28, 34, 14);
+}
+
+/* So may kinds; with a length they may not, so the strengths go with them. */
+static void null_kinds(void)
+{
+    const struct deblock_picture p = numbered();
+    const struct deblock_grids g = numbered_grids();
+    EXPECT("no kinds", 112, deblock_picture_strengths_row(&p, &g, 9, NULL, 0),
+           1, 2, 1, 9, 0, 0, DERIVED_FROM);
+    EXPECT("kinds of length 0", 112, deblock_picture_strengths_row(&p, &g, 9, kinds, 0),
+           1, 2, 1, 9, 38, 0, DERIVED_FROM);
+    EXPECT("kinds", 112, deblock_picture_strengths_row(&p, &g, 9, NULL, 18),
+           1, 2, 1, 9, 0, 0, 36, 16, 41, 21, 42, 22, 43, 23, 44, 24, 45, 25, 46, 26, 47, 27, 48, 28, 34, 0);
 }
 
 /* A table of slices that is left out goes on as empty, and with a length their numbers go with it. Calls that
@@ -293,6 +315,7 @@ int main(void)
     parts();
     all_null();
     null_with_a_length();
+    null_kinds();
     null_slices();
     null_tables();
     return faults != 0;

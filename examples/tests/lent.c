@@ -16,6 +16,8 @@ static void expect_with_slices(const char *what, uint32_t want, struct deblock_p
     expect(what, want, deblock_picture_visit_slices(&p, 0, 0));
 }
 
+static const uint8_t kinds[N] = {DEBLOCK_INTER, DEBLOCK_INTER, DEBLOCK_INTER, DEBLOCK_INTER};
+
 /* The filtering functions answer one number, the strength functions another. */
 static void expect_all(const char *what, uint32_t filtering, uint32_t deriving,
                        const struct deblock_picture *p, const struct deblock_grids *g)
@@ -28,6 +30,8 @@ static void expect_all(const char *what, uint32_t filtering, uint32_t deriving,
     expect(what, deriving, deblock_picture_strengths(p, g, 0, 0));
     expect(what, deriving, deblock_picture_strengths_flags(p, g, 0, 0, 0));
     expect(what, deriving, deblock_picture_strengths_kind(p, g, 0, 0, DEBLOCK_INTER));
+    expect(what, deriving, deblock_picture_strengths_row(p, g, 0, NULL, 0));
+    expect(what, deriving, deblock_picture_strengths_row(p, g, 0, kinds, p->w * p->h));
 }
 
 static void not_lent(void)
@@ -71,9 +75,31 @@ static void null_with_a_length(void)
     expect_all("V", DEBLOCK_PLANE_LENGTH, DEBLOCK_MACROBLOCK_GRID_LENGTH, &p, &g);
 }
 
+/* Null kinds with a length: after the size and the row, and before the grids. None at all are not lent. */
+static void null_kinds(void)
+{
+    static const struct deblock_grids none = DEBLOCK_NONE;
+    struct deblock_picture p = lend_picture();
+    const struct deblock_grids g = lend_grids();
+    decode();
+    memset(strengths, 9, sizeof strengths);
+    expect("kinds", DEBLOCK_MACROBLOCK_GRID_LENGTH, deblock_picture_strengths_row(&p, &g, 0, NULL, N));
+    expect("a kind", DEBLOCK_MACROBLOCK_GRID_LENGTH, deblock_picture_strengths_row(&p, &g, 0, NULL, 1));
+    expect("kinds, no grids", DEBLOCK_MACROBLOCK_GRID_LENGTH,
+           deblock_picture_strengths_row(&p, &none, 0, NULL, N));
+    expect("kinds, row H", DEBLOCK_OUTSIDE, deblock_picture_strengths_row(&p, &g, H, NULL, N));
+    expect("a strength", 9, strengths[0]);
+    expect("no kinds", DEBLOCK_DONE, deblock_picture_strengths_row(&p, &g, 0, NULL, 0));
+    expect("no kinds, of a length 0", DEBLOCK_DONE, deblock_picture_strengths_row(&p, &g, 0, kinds, 0));
+    expect("a strength", 0, strengths[0]);
+    p.w = 0;
+    expect("kinds, no size", DEBLOCK_BAD_SIZE, deblock_picture_strengths_row(&p, &g, 0, NULL, N));
+}
+
 int main(void)
 {
     not_lent();
     null_with_a_length();
+    null_kinds();
     return faults != 0;
 }

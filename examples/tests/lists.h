@@ -1,5 +1,5 @@
 /* For the tests of reference tables: both lists of the picture of station.h, in which all blocks are inter
- * and none is coded, and the strength calls in six ways. */
+ * and none is coded, and the strength calls in ten ways. */
 #include "test.h"
 
 static int8_t ref1[16 * N];
@@ -29,21 +29,37 @@ static inline struct deblock_grids lend_lists(int list1, const int32_t *pictures
     g.ref0, g.ref0_len, g.mv0, g.mv0_len, g.ref1, g.ref1_len, g.mv1, g.mv1_len, \
     g.pictures0, g.pictures0_len, g.pictures1, g.pictures1_len, strengths, sizeof strengths
 
-enum { WAYS = 6 };
+/* Those over structs, of which the last two take a row; as many are flat. */
+enum { PLAIN, FLAGS, KIND, ROW, ROW_BY_KINDS, OVER_STRUCTS, WAYS = 2 * OVER_STRUCTS };
 
-/* Derives the strengths of macroblock i, over structs or flat, and says of it nothing, flags or a kind. */
+/* The kind of macroblock i; all others are inter. */
+static inline const uint8_t *lend_kinds(size_t i, uint8_t kind)
+{
+    static uint8_t kinds[N];
+    memset(kinds, DEBLOCK_INTER, sizeof kinds);
+    if (i < N)
+        kinds[i] = kind;
+    return kinds;
+}
+
+/* Derives the strengths of macroblock i, or of its row, and says of it nothing, flags or a kind. */
 static inline uint32_t derive_as(int way, struct deblock_grids g, size_t i, unsigned flags, uint8_t kind)
 {
     const struct deblock_picture p = lend_picture();
+    const uint8_t *kinds = lend_kinds(i, kind);
     const size_t x = i % W, y = i / W;
     const uint8_t flat = (flags & DEBLOCK_FLAT) != 0, uniform = (flags & DEBLOCK_UNIFORM) != 0;
     switch (way) {
-    case 0: return deblock_picture_strengths(&p, &g, x, y);
-    case 1: return deblock_picture_strengths_flags(&p, &g, x, y, flags);
-    case 2: return deblock_picture_strengths_kind(&p, &g, x, y, kind);
-    case 3: return deblock_strengths(W, H, 0, x, y, LENT(g));
-    case 4: return deblock_strengths_flags(W, H, 0, x, y, flat, uniform, LENT(g));
-    default: return deblock_strengths_kind(W, H, 0, x, y, kind, LENT(g));
+    case PLAIN: return deblock_picture_strengths(&p, &g, x, y);
+    case FLAGS: return deblock_picture_strengths_flags(&p, &g, x, y, flags);
+    case KIND: return deblock_picture_strengths_kind(&p, &g, x, y, kind);
+    case ROW: return deblock_picture_strengths_row(&p, &g, y, NULL, 0);
+    case ROW_BY_KINDS: return deblock_picture_strengths_row(&p, &g, y, kinds, N);
+    case OVER_STRUCTS + PLAIN: return deblock_strengths(W, H, 0, x, y, LENT(g));
+    case OVER_STRUCTS + FLAGS: return deblock_strengths_flags(W, H, 0, x, y, flat, uniform, LENT(g));
+    case OVER_STRUCTS + KIND: return deblock_strengths_kind(W, H, 0, x, y, kind, LENT(g));
+    case OVER_STRUCTS + ROW: return deblock_strengths_row(W, H, 0, y, kinds, 0, LENT(g));
+    default: return deblock_strengths_row(W, H, 0, y, kinds, N, LENT(g));
     }
 }
 

@@ -103,11 +103,13 @@ static const struct pair uniform_or_not[] = {
 /* Said by flags and by kind, over structs and flat. */
 static void expect_said(const char *what, uint32_t want, struct deblock_grids g)
 {
-    for (int way = 1; way < WAYS; way += 3) {
-        expect(what, want, derive_as(way, g, 0, DEBLOCK_UNIFORM, 0));
-        expect(what, want, derive_as(way, g, 0, DEBLOCK_FLAT, 0));
-        expect(what, want, derive_as(way + 1, g, 0, 0, DEBLOCK_INTER_UNIFORM));
-        expect(what, want, derive_as(way + 1, g, 0, 0, DEBLOCK_SKIP));
+    for (int way = 0; way < WAYS; way += OVER_STRUCTS) {
+        expect(what, want, derive_as(way + FLAGS, g, 0, DEBLOCK_UNIFORM, 0));
+        expect(what, want, derive_as(way + FLAGS, g, 0, DEBLOCK_FLAT, 0));
+        expect(what, want, derive_as(way + KIND, g, 0, 0, DEBLOCK_INTER_UNIFORM));
+        expect(what, want, derive_as(way + KIND, g, 0, 0, DEBLOCK_SKIP));
+        expect(what, want, derive_as(way + ROW_BY_KINDS, g, 0, 0, DEBLOCK_INTER_UNIFORM));
+        expect(what, want, derive_as(way + ROW_BY_KINDS, g, 0, 0, DEBLOCK_SKIP));
     }
 }
 

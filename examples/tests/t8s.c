@@ -1,5 +1,5 @@
 /* The 8x8 flags that strength calls are lent: which of them are read, and what a count comes to under them,
- * by all three functions. In the picture of station.h a macroblock has one motion and the next another. */
+ * by all four functions. In the picture of station.h a macroblock has one motion and the next another. */
 #include "test.h"
 
 static uint8_t t8s[N + 1];
@@ -12,28 +12,37 @@ static struct deblock_picture lend_flags(size_t len)
     return p;
 }
 
-enum { WAYS = 3 };
+/* ROW: with nothing known; the way after it: by kinds. */
+enum { ROW = 3, WAYS = 5 };
 
-/* Derives the strengths of macroblock i by one of the three functions, with so many flags lent. */
+/* Derives the strengths of macroblock i, or of its row, with so many flags lent. */
 static uint32_t derive(int way, size_t len, size_t i)
 {
+    static const uint8_t kinds[N] = {DEBLOCK_INTER, DEBLOCK_INTER, DEBLOCK_INTER, DEBLOCK_INTER};
     const struct deblock_picture p = lend_flags(len);
     const struct deblock_grids g = lend_grids();
-    if (way == 0)
-        return deblock_picture_strengths(&p, &g, i % W, i / W);
-    if (way == 1)
-        return deblock_picture_strengths_flags(&p, &g, i % W, i / W, 0);
-    return deblock_picture_strengths_kind(&p, &g, i % W, i / W, DEBLOCK_INTER);
+    const size_t x = i % W, y = i / W;
+    switch (way) {
+    case 0: return deblock_picture_strengths(&p, &g, x, y);
+    case 1: return deblock_picture_strengths_flags(&p, &g, x, y, 0);
+    case 2: return deblock_picture_strengths_kind(&p, &g, x, y, DEBLOCK_INTER);
+    case ROW: return deblock_picture_strengths_row(&p, &g, y, NULL, 0);
+    default: return deblock_picture_strengths_row(&p, &g, y, kinds, N);
+    }
 }
 
-/* Macroblock (1, 1) with a flag 2: its own, its left and its upper neighbour's are read, and no other. */
+/* With a flag 2. Of macroblock (1, 1) its own, its left and its upper neighbour's are read, and no other; of
+ * row 1 all, since (0, 0) is above it, and of row 0 its own. */
 static void flags_read(int way)
 {
+    const int by_row = way >= ROW;
     for (size_t i = 0; i < N; i++) {
         decode();
         memset(t8s, 0, sizeof t8s);
         t8s[i] = 2;
-        expect("flag 2", i == 0 ? DEBLOCK_DONE : DEBLOCK_NOT_A_BOOL, derive(way, N, 3));
+        expect("flag 2", i == 0 && !by_row ? DEBLOCK_DONE : DEBLOCK_NOT_A_BOOL, derive(way, N, 3));
+        if (by_row)
+            expect("flag 2, row 0", i < W ? DEBLOCK_NOT_A_BOOL : DEBLOCK_DONE, derive(way, N, 0));
     }
 }
 

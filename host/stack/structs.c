@@ -10,6 +10,7 @@ const function kept[] = {
     (function)deblock_picture_visit_slices,
     (function)deblock_picture_is_final,  (function)deblock_picture_made_final,
     (function)deblock_picture_strengths_flags, (function)deblock_picture_strengths_kind,
+    (function)deblock_picture_strengths_row,
 };
 
 /* A compiler may call it to copy a struct. */

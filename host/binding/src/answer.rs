@@ -5,7 +5,8 @@ use std::{error, fmt};
 /// What a call answers, by the numbers of docs/RULES.md, "Answers". All but `Done` are refusals, and a
 /// refusal has changed nothing that was lent. They stand in the order in which calls look for them, which is
 /// not that of their numbers: 19 comes between 2 and 3, 20 and 21 after 9, 22 between 10 and 11. The calls of
-/// [`y4m`](crate::y4m) have orders of their own, which stand with them. An answer must be looked at:
+/// [`y4m`](crate::y4m) and [`derive_row`](crate::Picture::derive_row) have orders of their own, which
+/// stand with them. An answer must be looked at:
 ///
 /// ```compile_fail
 /// #![deny(unused_must_use)]
@@ -18,13 +19,13 @@ pub enum Answer {
     Done = 0,
     /// `w` or `h` is not 1 to 256, or their product is above 36,864.
     BadSize = 1,
-    /// The macroblock is outside the picture, or the rows are not `start <= end <= h`.
+    /// The macroblock or row is outside the picture, or the rows are not `start <= end <= h`.
     Outside = 2,
     /// The part is none of frame, top field and bottom field, which a [`Picture`](crate::Picture) cannot say.
     BadParity = 19,
     /// `luma`, `u` or `v` has the wrong length.
     PlaneLength = 3,
-    /// `strengths`, `qps`, `t8s`, `marks` or `slice_numbers` has the wrong length.
+    /// `strengths`, `qps`, `t8s`, `marks`, `slice_numbers` or the kinds of a row call have the wrong length.
     MacroblockGridLength = 4,
     /// One of the 4x4 grids has the wrong length, or just one of `ref1` and `mv1` is empty, or just one of
     /// the tables `pictures0` and `pictures1`; the latter alone may be, where list 1 is not lent.
@@ -70,7 +71,7 @@ const WORDS: [(Answer, &str); 23] = [
     (Answer::BadSize, "width, height or their product is out of range"),
     (Answer::Outside, "the macroblock is outside the picture, or the rows are not first <= last <= h"),
     (Answer::PlaneLength, "luma, U or V has the wrong length"),
-    (Answer::MacroblockGridLength, "strengths, QPs, 8x8 flags, marks or slice numbers have the wrong length"),
+    (Answer::MacroblockGridLength, "strengths, QPs, 8x8 flags, kinds, marks or slice numbers have the wrong length"),
     (Answer::BlockGridLength, "a 4x4 grid has the wrong length, or just one list 1 grid or reference table is empty"),
     (Answer::BadOffset, "an offset is not within -12 to 12"),
     (Answer::NotABool, "an inter byte, 8x8 flag or mark is not 0 or 1"),

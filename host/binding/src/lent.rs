@@ -77,6 +77,7 @@ pub struct SliceRecord {
 }
 
 /// What the caller knows of a macroblock. A kind that is not true of the grids is refused.
+#[repr(u8)]
 #[derive(Clone, Copy, PartialEq, Eq, Debug)]
 pub enum Kind {
     /// All 16 blocks are intra.

@@ -1,6 +1,6 @@
 //! The deblocking filter of the survey station: a safe binding over the archive of the proved code.
 //!
-//! A [`Picture`] holds what stays the same throughout a picture and borrows its memory. Its eleven methods
+//! A [`Picture`] holds what stays the same throughout a picture and borrows its memory. Its twelve methods
 //! are the calls of the archive that derive strengths and filter, each of which answers an [`Answer`], and
 //! those that tell which macroblocks are final, where the answer is the error. What goes into the buffers
 //! stands in docs/RULES.md, "Sizes and layouts". The module [`y4m`] has the other four calls, which read and

@@ -1,4 +1,4 @@
-//! A picture and the eleven calls on it.
+//! A picture and the twelve calls on it.
 
 use crate::{wire, Answer, Finals, Flags, Grids, Kind, Offsets, Part, Place, Size, SliceRecord};
 use std::ops::Range;
@@ -35,7 +35,7 @@ pub struct Picture<'a> {
     pub u: &'a mut [u8],
     /// The same for V.
     pub v: &'a mut [u8],
-    /// 32 n, each 0 to 4. The strength calls write those of one macroblock; filtering reads them.
+    /// 32 n, each 0 to 4. The strength calls write those of a macroblock or of a row; filtering reads them.
     pub strengths: &'a mut [u8],
     /// n luma QPs, 0 to 51.
     pub qps: &'a [u8],
@@ -140,6 +140,16 @@ impl Picture<'_> {
     /// The same for a macroblock whose kind is known.
     pub fn derive_by_kind(&mut self, grids: Grids, at: Place, kind: Kind) -> Answer {
         Answer::of(wire::strengths_kind(self, self.field(), grids, at, kind as u8))
+    }
+
+    /// The same for all macroblocks of row `y`, in one call: `kinds` has the kind of each macroblock of the
+    /// picture, in raster order, or is empty where nothing is known. Of the kinds it reads those of the row.
+    ///
+    /// It asks for [`Answer::BadSize`], for [`Answer::Outside`] and for [`Answer::MacroblockGridLength`] of
+    /// the kinds; then it answers the first refusal of [`Picture::derive_by_kind`] or [`Picture::derive`]
+    /// from left to right, and writes no strength of the row where there is one.
+    pub fn derive_row(&mut self, grids: Grids, y: usize, kinds: &[Kind]) -> Answer {
+        Answer::of(wire::strengths_row(self, self.field(), grids, y, wire::kind_bytes(kinds)))
     }
 
     fn field(&self) -> u8 {

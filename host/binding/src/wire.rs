@@ -1,4 +1,4 @@
-//! The fifteen calls as the archive has them: numbers in, numbers out (docs/RULES.md, "Answers"). For a
+//! The sixteen calls as the archive has them: numbers in, numbers out (docs/RULES.md, "Answers"). For a
 //! caller who must pass on a part, a kind or a flag as the byte that it is; [`Picture`] and
 //! [`y4m`](crate::y4m) have the same calls with types.
 //!
@@ -10,7 +10,7 @@
 //! it: a slice is valid for its length, aligned, and not null even where it is empty; what is borrowed
 //! mutably is borrowed by nobody else, and does not overlap.
 
-use crate::{Grids, Picture, Place, Size, SliceRecord};
+use crate::{Grids, Kind, Picture, Place, Size, SliceRecord};
 
 /// What a call finds in a YUV4MPEG2 stream, laid out as `struct deblock_y4m` of include/deblock.h.
 #[repr(C)]
@@ -71,6 +71,15 @@ mod c {
         pub fn deblock_strengths(
             w: usize, h: usize, field: u8, x: usize, y: usize,
             t8s: *const u8, t8s_len: usize,
+            inter: *const u8, inter_len: usize, nnz: *const u8, nnz_len: usize,
+            ref0: *const i8, ref0_len: usize, mv0: *const i16, mv0_len: usize,
+            ref1: *const i8, ref1_len: usize, mv1: *const i16, mv1_len: usize,
+            pictures0: *const i32, pictures0_len: usize, pictures1: *const i32, pictures1_len: usize,
+            strengths: *mut u8, strengths_len: usize,
+        ) -> u32;
+        pub fn deblock_strengths_row(
+            w: usize, h: usize, field: u8, y: usize,
+            kinds: *const u8, kinds_len: usize, t8s: *const u8, t8s_len: usize,
             inter: *const u8, inter_len: usize, nnz: *const u8, nnz_len: usize,
             ref0: *const i8, ref0_len: usize, mv0: *const i16, mv0_len: usize,
             ref1: *const i8, ref1_len: usize, mv1: *const i16, mv1_len: usize,
@@ -181,6 +190,23 @@ pub fn strengths(p: &mut Picture, field: u8, g: Grids, at: Place) -> u32 {
         c::deblock_strengths(
             p.size.w, p.size.h, field, at.x, at.y,
             p.t8s.as_ptr(), p.t8s.len(),
+            g.inter.as_ptr(), g.inter.len(), g.nnz.as_ptr(), g.nnz.len(),
+            g.ref0.as_ptr(), g.ref0.len(), g.mv0.as_ptr(), g.mv0.len(),
+            g.ref1.as_ptr(), g.ref1.len(), g.mv1.as_ptr(), g.mv1.len(),
+            g.pictures0.as_ptr(), g.pictures0.len(), g.pictures1.as_ptr(), g.pictures1.len(),
+            p.strengths.as_mut_ptr(), p.strengths.len(),
+        )
+    }
+}
+
+/// Strengths of all macroblocks of row `y`: by the kinds of the picture's macroblocks, numbers as
+/// [`strengths_kind`] takes them, or where `kinds` is empty with nothing known.
+pub fn strengths_row(p: &mut Picture, field: u8, g: Grids, y: usize, kinds: &[u8]) -> u32 {
+    // SAFETY: as above.
+    unsafe {
+        c::deblock_strengths_row(
+            p.size.w, p.size.h, field, y,
+            kinds.as_ptr(), kinds.len(), p.t8s.as_ptr(), p.t8s.len(),
             g.inter.as_ptr(), g.inter.len(), g.nnz.as_ptr(), g.nnz.len(),
             g.ref0.as_ptr(), g.ref0.len(), g.mv0.as_ptr(), g.mv0.len(),
             g.ref1.as_ptr(), g.ref1.len(), g.mv1.as_ptr(), g.mv1.len(),
@@ -320,6 +346,12 @@ pub fn y4m_write(size: Size, luma: &[u8], u: &[u8], v: &[u8], stream: &mut [u8])
     }
 }
 
+/// Kinds as the bytes that they are.
+pub(crate) fn kind_bytes(kinds: &[Kind]) -> &[u8] {
+    // SAFETY: a kind is one byte, its number.
+    unsafe { std::slice::from_raw_parts(kinds.as_ptr().cast(), kinds.len()) }
+}
+
 #[cfg(test)]
 mod tests {
     use super::*;
@@ -333,6 +365,12 @@ mod tests {
         assert_eq!(members, [0, 1, 2]);
         assert_eq!([offset_of!(Finality, answer), offset_of!(Finality, yes)], [0, 4]);
         assert_eq!([offset_of!(Finals, own), offset_of!(Finals, left), offset_of!(Finals, upper)], [4, 5, 6]);
+    }
+
+    #[test]
+    fn kinds_are_their_numbers() {
+        assert_eq!(kind_bytes(&[Kind::Inter, Kind::Intra, Kind::Skip, Kind::InterUniform]), [3, 0, 1, 2]);
+        assert!(kind_bytes(&[]).is_empty());
     }
 
     /// A part above 2 is refused with 19: before the planes' lengths, and after a place outside.

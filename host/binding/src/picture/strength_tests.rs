@@ -1,29 +1,41 @@
 //! The strength calls by cases that are worked by hand.
 
+mod rows;
 mod tables;
 
 use super::*;
 
 type Ask = fn(&mut Picture, Grids, Place) -> Answer;
 
-/// The three calls, told what is true of every inter macroblock.
-const ASKS: [Ask; 3] = [
+/// The ways to ask, told what is true of every inter macroblock. The last two ask of its row.
+const ASKS: [Ask; 5] = [
     |p, grids, at| p.derive(grids, at),
     |p, grids, at| p.derive_by_flags(grids, at, Flags::default()),
     |p, grids, at| p.derive_by_kind(grids, at, Kind::Inter),
+    |p, grids, at| p.derive_row(grids, at.y, &[]),
+    |p, grids, at| by_row(p, grids, at, Kind::Inter),
 ];
 
-/// The two that can be told more of one with one motion.
-const UNIFORM_ASKS: [Ask; 2] = [
+/// Those that can be told more of one with one motion.
+const UNIFORM_ASKS: [Ask; 3] = [
     |p, grids, at| p.derive_by_flags(grids, at, Flags { uniform: true, ..Flags::default() }),
     |p, grids, at| p.derive_by_kind(grids, at, Kind::InterUniform),
+    |p, grids, at| by_row(p, grids, at, Kind::InterUniform),
 ];
 
 /// And those for one that has no counts either.
-const FLAT_ASKS: [Ask; 2] = [
+const FLAT_ASKS: [Ask; 3] = [
     |p, grids, at| p.derive_by_flags(grids, at, Flags { flat: true, ..Flags::default() }),
     |p, grids, at| p.derive_by_kind(grids, at, Kind::Skip),
+    |p, grids, at| by_row(p, grids, at, Kind::Skip),
 ];
+
+/// The row of a macroblock of this kind; all others are inter.
+fn by_row(p: &mut Picture, grids: Grids, at: Place, kind: Kind) -> Answer {
+    let mut kinds = vec![Kind::Inter; p.size.macroblocks()];
+    kinds[p.size.index(at)] = kind;
+    p.derive_row(grids, at.y, &kinds)
+}
 
 const LONE: Size = Size { w: 1, h: 1 };
 const BESIDE: Size = Size { w: 2, h: 1 };
@@ -91,7 +103,8 @@ fn flags_are_held_to_the_grids() {
 fn an_8x8_transform_has_two_inner_edges() {
     let grids = Grids { inter: &[0; 16], nnz: &[0; 16], ref0: &[-1; 16], mv0: &[0; 32], ..Grids::default() };
     let intra: Ask = |p, grids, at| p.derive_by_kind(grids, at, Kind::Intra);
-    for ask in [intra, ASKS[0], ASKS[1]] {
+    let intra_row: Ask = |p, grids, at| by_row(p, grids, at, Kind::Intra);
+    for ask in [intra, intra_row, ASKS[0], ASKS[1], ASKS[3]] {
         let [with, without] = [&[1][..], &[0]].map(|t8s| last(LONE, t8s, grids, ask));
         assert_eq!(with, (Answer::Done, std::array::from_fn(|i| if i / 4 % 4 == 2 { 3 } else { 0 })));
         assert_eq!(without, (Answer::Done, std::array::from_fn(|i| if i / 4 % 4 == 0 { 0 } else { 3 })));

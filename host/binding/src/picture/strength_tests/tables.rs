@@ -20,15 +20,15 @@ impl Odd {
         Grids { inter: &[1; 16], nnz: &[0; 16], ref0, mv0: &[7; 32], ref1, mv1, pictures0, pictures1 }
     }
 
-    /// What the three calls answer, and whether those that are told flat agree that it is.
+    /// What the calls answer, and whether those that are told flat agree that it is.
     fn asked(&self, pictures0: &[i32], pictures1: &[i32]) -> (Answer, [u8; 32], bool) {
         let grids = self.lent(pictures0, pictures1);
         let outcomes = ASKS.map(|ask| last(LONE, &[], grids, ask));
-        assert_eq!(outcomes, [outcomes[0]; 3]);
+        assert_eq!(outcomes, [outcomes[0]; 5]);
         let flat = FLAT_ASKS.map(|ask| last(LONE, &[], grids, ask));
         let (answer, strengths) = outcomes[0];
-        let is_flat = flat == [outcomes[0]; 2];
-        assert!(is_flat || flat == [(Answer::Untrue, [9; 32]); 2]);
+        let is_flat = flat == [outcomes[0]; 3];
+        assert!(is_flat || flat == [(Answer::Untrue, [9; 32]); 3]);
         (answer, strengths, is_flat)
     }
 }
@@ -76,10 +76,10 @@ fn just_one_table_is_refused() {
     };
     let one_list = || Odd::new([0, -1], [0, -1]);
     let two_lists = || Odd::new([0, 0], [0, 0]);
-    assert_eq!([answers(one_list(), &[], &[3]), answers(two_lists(), &[], &[3])], [[refused; 3]; 2]);
-    assert_eq!(answers(two_lists(), &[3], &[]), [refused; 3]);
+    assert_eq!([answers(one_list(), &[], &[3]), answers(two_lists(), &[], &[3])], [[refused; 5]; 2]);
+    assert_eq!(answers(two_lists(), &[3], &[]), [refused; 5]);
     let done = (Answer::Done, [0; 32]);
-    assert_eq!([answers(one_list(), &[3], &[]), answers(two_lists(), &[3], &[3])], [[done; 3]; 2]);
+    assert_eq!([answers(one_list(), &[3], &[]), answers(two_lists(), &[3], &[3])], [[done; 5]; 2]);
 }
 
 /// Of every entry, used or not; after a bad reference, and before blocks that disagree.
@@ -91,10 +91,10 @@ fn picture_numbers_are_0_to_65535() {
     for (pictures0, pictures1) in [(&[0, -1][..], &[][..]), (&long, &[]), (&[0], &[i32::MIN]), (&[0], &[0, i32::MAX])] {
         let grids = odd.lent(pictures0, pictures1);
         let answer = |grids| ASKS.map(|ask| last(LONE, &[], grids, ask));
-        assert_eq!(answer(grids), [(Answer::BadPictureNumber, [9; 32]); 3]);
+        assert_eq!(answer(grids), [(Answer::BadPictureNumber, [9; 32]); 5]);
         let mixed: Vec<u8> = (0..16).map(|block| block % 2).collect();
-        assert_eq!(answer(Grids { inter: &mixed, ..grids }), [(Answer::BadPictureNumber, [9; 32]); 3]);
-        assert_eq!(answer(Grids { ref0: &[-2; 16], ..grids }), [(Answer::BadReference, [9; 32]); 3]);
+        assert_eq!(answer(Grids { inter: &mixed, ..grids }), [(Answer::BadPictureNumber, [9; 32]); 5]);
+        assert_eq!(answer(Grids { ref0: &[-2; 16], ..grids }), [(Answer::BadReference, [9; 32]); 5]);
     }
     assert_eq!(odd.asked(&long[..299], &[]), ALIKE);
 }

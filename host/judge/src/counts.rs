@@ -20,9 +20,10 @@ impl<K: Ord> Counts<K> {
         own.flat_map(|(_, numbers)| numbers.values()).sum()
     }
 
-    /// How often a number was answered, over everything.
-    pub fn answered(&self, number: u32) -> u64 {
-        self.0.values().filter_map(|numbers| numbers.get(&number)).sum()
+    /// How often a number was answered, by the kinds that are meant.
+    pub fn answered(&self, meant: impl Fn(&K) -> bool, number: u32) -> u64 {
+        let own = self.0.iter().filter(|(kind, _)| meant(kind));
+        own.filter_map(|(_, numbers)| numbers.get(&number)).sum()
     }
 
     /// A line for each kind; `words` says what it is about, its run and its call.

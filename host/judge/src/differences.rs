@@ -134,7 +134,8 @@ pub struct Seen {
 /// by kind none. A panic is an outcome, and is not printed; one in the
 /// conversion to the original's types is none, since nobody could have made that call: it ends the program.
 pub fn original(q: &Request) -> Seen {
-    assert!(q.call != Call::Visit && q.kind < 4 && !q.sliced, "the original has no such call");
+    let has_call = !matches!(q.call, Call::Visit | Call::StrengthsRow);
+    assert!(has_call && q.kind < 4 && !q.sliced, "the original has no such call");
     let [a, b, chroma, chroma_v] = q.offsets;
     assert_eq!(chroma, chroma_v, "the original has one chroma offset");
     let mut after = q.clone();

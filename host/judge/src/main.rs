@@ -18,6 +18,7 @@ mod model;
 mod model_counts;
 mod model_lines;
 mod model_numbers;
+mod model_rows;
 mod model_slice_edges;
 mod model_slice_numbers;
 mod model_slices;
@@ -35,6 +36,7 @@ mod shrink;
 mod small;
 mod small_fields;
 mod small_flags;
+mod small_rows;
 mod small_slices;
 mod small_tables;
 mod streams;
@@ -181,12 +183,15 @@ impl<'a> Compared<'a> {
         self.streams.print();
     }
 
-    /// The numbers that no call about pictures, none about what is final, or none about streams has answered.
-    fn unseen(&self) -> Vec<u32> {
+    /// The numbers that a call on pictures, the calls about what is final, or those about streams could have
+    /// answered and have not, in words.
+    fn unseen(&self) -> Vec<String> {
         let (about, finality) = (self.about, &self.pictures.finality);
-        let pictures = table::numbers().filter(|&number| self.pictures.answered(number) == 0);
         let finals = finality::NUMBERS.into_iter().filter(|&number| finality.answered(number) == 0);
+        let finals = finals.map(|number| format!("{number} of what is final"));
         let streams = streams::NUMBERS.into_iter().filter(|&number| self.streams.answered(number) == 0);
+        let streams = streams.map(|number| format!("{number} of streams"));
+        let pictures = self.pictures.unseen().into_iter();
         pictures.chain(finals).filter(|_| about == About::All).chain(streams).collect()
     }
 }
@@ -219,7 +224,7 @@ fn compare(seed: u64, about: About, goes_on: impl Fn(u64, Duration) -> bool) -> 
     println!("{} equal in {:.1} s, {round} rounds of seeds from {seed} on", c.calls(), took());
     let unseen = c.unseen();
     if !unseen.is_empty() {
-        println!("but no call answered {unseen:?}: the run is too short to say anything of them");
+        println!("but no call answered {}: the run is too short to say anything of them", unseen.join(", "));
     }
     Some(unseen.is_empty())
 }

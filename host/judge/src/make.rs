@@ -160,17 +160,45 @@ pub fn blocks(r: &mut Rng, of: Structure, call: Call, w: usize, h: usize) -> Req
     q
 }
 
-/// Another macroblock of the same grids, and what is said of it.
+/// Another macroblock of the same grids, or another row, and what is said of it.
 pub fn place(r: &mut Rng, q: &mut Request) {
     (q.x, q.y) = (r.below(q.w), r.below(q.h));
+    if q.call == Call::StrengthsRow {
+        q.kinds = kinds(r, q).into();
+        return;
+    }
     q.flat = r.pick(&[0, 0, 1, 128]);
     q.uniform = r.pick(&[0, 0, 1, 2]);
+    let truths = truths(q);
+    q.kind = if truths.is_empty() || r.once_in(8) { r.below(4) as u8 } else { r.pick(&truths) };
+}
+
+/// The kinds with which the call is taken.
+fn truths(q: &mut Request) -> Vec<u8> {
     let mut is_true = |kind: &u8| {
         q.kind = *kind;
         crate::table::answer(q) == 0
     };
-    let truths: Vec<u8> = (0..4).filter(|kind| is_true(kind)).collect();
-    q.kind = if truths.is_empty() || r.once_in(8) { r.below(4) as u8 } else { r.pick(&truths) };
+    (0..4).filter(|kind| is_true(kind)).collect()
+}
+
+/// Kinds for a row of strengths: none in one of three, else true ones of the row, in one of four but for one
+/// macroblock of it, and any of the other rows.
+fn kinds(r: &mut Rng, q: &Request) -> Vec<u8> {
+    if r.once_in(3) {
+        return Vec::new();
+    }
+    let mut kinds: Vec<u8> = (0..q.w * q.h).map(|_| r.pick(&[0, 1, 2, 3, 4, 255])).collect();
+    let mut single = Request { call: Call::Kind, ..q.clone() };
+    let row = &mut kinds[q.w * q.y..][..q.w];
+    for (x, own) in row.iter_mut().enumerate() {
+        single.x = x;
+        *own = r.pick(&truths(&mut single));
+    }
+    if r.once_in(4) {
+        row[r.below(q.w)] = r.below(5) as u8;
+    }
+    kinds
 }
 
 /// The references and vectors of a picture: few, so that equal and nearly equal ones meet.

@@ -30,6 +30,8 @@ impl Subject for Model {
         let number = self.number(r);
         if number == 0 {
             self.work(r);
+        } else if r.call == Call::StrengthsRow {
+            self.refused_row(r);
         } else if number == 14 && self.has(Mistake::MarksWhenNotReady) {
             let at = r.at();
             r.marks[at] = 1;
@@ -81,6 +83,7 @@ impl Model {
     pub fn work(&self, r: &mut Request) {
         match r.call {
             Call::Kind | Call::Flags | Call::Flagless => self.strengths(r),
+            Call::StrengthsRow => self.strengths_row(r),
             Call::Whole => self.rows(r, 0, r.h),
             Call::Rows => self.rows(r, r.first, r.last),
             Call::Visit => self.visit(r),

@@ -23,6 +23,9 @@ fn with_behind(r: &Request, take: impl Fn(&mut Request, usize, usize)) -> Option
 
 impl Model {
     pub fn number(&self, r: &Request) -> u32 {
+        if r.call == Call::StrengthsRow {
+            return self.row_number(r);
+        }
         let number = table::answer(r);
         let wrong = match r.call {
             Call::Visit => self.wrong_visit(r, number),

@@ -8,6 +8,8 @@
 //! Nor does it know coefficients of 8x8 blocks. Where an 8x8 flag that is read is set it is asked as long as
 //! no count tells a block from its 8x8 block.
 //!
+//! A row of strengths it is asked about macroblock by macroblock: about all of them, or about none.
+//!
 //! Reference tables are lent as its lists `poc0` and `poc1`. Where both are empty identity lists stand in
 //! their place, since without lists it takes -1 for a picture. With tables it can be asked about all that is
 //! taken: where just one is empty it would compare numbers with pictures, but that is refused, unless it is
@@ -67,14 +69,16 @@ pub fn work(r: &mut Request) -> bool {
 }
 
 /// Whether the original's strengths are those of the rules: where a flag is set, the counts of each 8x8 block
-/// are all 0 or all not, and the flag is not the own one of a call by kind, to which the original takes none.
+/// are all 0 or all not, and the flag is not the own one of a macroblock that is told by kind, since the
+/// original takes none there.
 fn knows_counts(r: &Request) -> bool {
     let is_8x8 = |m: usize| r.t8s.get(m) == Some(&1);
     let line = 4 * r.w;
     let corner = |block: usize| block / line / 2 * 2 * line + block % line / 2 * 2;
     let is_alike = |block: usize| (r.nnz[block] != 0) == (r.nnz[corner(block)] != 0);
     let alike = || table::counts_read(r).into_iter().all(|block| is_alike(block) || !is_8x8(r.macroblock_of(block)));
-    !reads_flag(r) || !(r.call == Call::Kind && is_8x8(r.at())) && alike()
+    let by_kind = |m: usize| r.kind_of(m).is_some() && is_8x8(m);
+    !reads_flag(r) || !table::macroblocks_written(r).any(by_kind) && alike()
 }
 
 /// What a strength call of the original is lent.
@@ -85,14 +89,15 @@ pub fn lent(r: &Request) -> Grids<'_> {
 
 fn strengths(r: &mut Request) {
     let blocks = Blocks::new(r.w, lent(r));
-    let t8 = r.t8s.get(r.at()) == Some(&1);
-    let own = match r.call {
-        Call::Kind => blocks.by_kind(r.x, r.y, r.kind),
-        Call::Flags => blocks.by_flags(r.x, r.y, r.flat != 0, r.uniform != 0, t8),
-        _ => blocks.flagless(r.x, r.y, t8),
-    };
-    let at = 32 * r.at();
-    r.strengths[at..at + 32].copy_from_slice(&own);
+    for m in table::macroblocks_written(r) {
+        let (x, t8) = (m % r.w, r.t8s.get(m) == Some(&1));
+        let own = match (r.kind_of(m), r.call) {
+            (Some(kind), _) => blocks.by_kind(x, r.y, kind),
+            (None, Call::Flags) => blocks.by_flags(x, r.y, r.flat != 0, r.uniform != 0, t8),
+            _ => blocks.flagless(x, r.y, t8),
+        };
+        r.strengths[32 * m..][..32].copy_from_slice(&own);
+    }
 }
 
 fn planes(r: &mut Request) {
@@ -181,8 +186,9 @@ fn field_strengths(r: &mut Request) -> bool {
     let mut frame = Request { part: 0, mv0, mv1, ..r.clone() };
     strengths(&mut frame);
     r.strengths = frame.strengths;
-    let upper = 32 * r.at() + 16;
-    r.strengths[upper..upper + 4].iter_mut().for_each(|s| *s = 3.min(*s));
+    for m in table::macroblocks_written(r) {
+        r.strengths[32 * m + 16..][..4].iter_mut().for_each(|s| *s = 3.min(*s));
+    }
     true
 }
 
@@ -351,5 +357,27 @@ mod tests {
         }
         let kinds = [[0, 0], [0, 1], [1, 0]].map(|t8s| asked(Call::Kind, t8s));
         assert_eq!(kinds, [[true; 2], [false; 2], [false, true]]);
+        // of a row no macroblock may stand in the way
+        let row = [[0, 0], [0, 1], [1, 0]].map(|t8s| asked(Call::StrengthsRow, t8s));
+        assert_eq!(row, [[true; 2], [false, true], [false, true]]);
+    }
+
+    /// A row of 3 by 2, of which nothing is known or by kinds, is what the single calls of it are.
+    #[test]
+    fn a_row_is_asked_about_macroblock_by_macroblock() {
+        for (part, y, kinds) in [0, 1].into_iter().flat_map(|part| [(part, 0, true), (part, 1, true), (part, 1, false)])
+        {
+            let mut row = kinds_picture(part, 3, 2, &[7, 0, 4, 5, 2, 0]);
+            (row.call, row.y) = (Call::StrengthsRow, y);
+            row.kinds = if kinds { vec![3, 0, 2, 3, 1, 0].into() } else { Buffer::default() };
+            assert_eq!(table::answer(&row), 0);
+            let mut singles = row.clone();
+            (0..3).for_each(|x| {
+                singles.turn_to(x);
+                assert!(work(&mut singles));
+            });
+            assert!(work(&mut row) && row.strengths == singles.strengths);
+            assert!(row.strengths[96 * (1 - y)..][..96] == [200; 96]);
+        }
     }
 }

@@ -12,7 +12,7 @@ use inputs::Rng;
 type Damage = fn(&mut Rng, &mut Request);
 
 /// Each with the number that it calls forth, in some call and at some place.
-const DAMAGES: [(u32, Damage); 30] = [
+const DAMAGES: [(u32, Damage); 32] = [
     (1, |r, q| q.w = r.pick(&HUGE)),
     (1, |r, q| q.h = r.pick(&HUGE)),
     (1, |r, q| (q.w, q.h) = r.pick(&[(256, 145), (145, 256), (256, 256), (193, 192), (1 << 32, 1 << 32)])),
@@ -26,6 +26,7 @@ const DAMAGES: [(u32, Damage); 30] = [
     (4, |r, q| spoil_length(r, &mut q.qps)),
     (4, |r, q| spoil_length(r, &mut q.t8s)),
     (4, |r, q| spoil_length(r, &mut q.marks)),
+    (4, |r, q| spoil_length(r, &mut q.kinds)),
     (5, |r, q| if r.once_in(2) { spoil_length(r, &mut q.inter) } else { spoil_length(r, &mut q.nnz) }),
     (5, |r, q| if r.once_in(2) { spoil_length(r, &mut q.ref0) } else { spoil_length(r, &mut q.mv0) }),
     (5, |r, q| if r.once_in(2) { spoil_length(r, &mut q.ref1) } else { spoil_length(r, &mut q.mv1) }),
@@ -38,7 +39,7 @@ const DAMAGES: [(u32, Damage); 30] = [
         let value = r.pick(&[2, 3, 128, 255]);
         match q.call {
             Call::Visit if r.once_in(2) => spoil_near(r, q, |q| &mut q.marks, value),
-            Call::Kind | Call::Flags | Call::Flagless if r.once_in(2) => spoil_near(r, q, |q| &mut q.inter, value),
+            call if call.is_strengths() && r.once_in(2) => spoil_near(r, q, |q| &mut q.inter, value),
             _ => spoil_near(r, q, |q| &mut q.t8s, value),
         }
     }),
@@ -66,6 +67,10 @@ const DAMAGES: [(u32, Damage); 30] = [
     (12, |r, q| {
         q.kind = r.pick(&[0, 1, 2, 3, 4, 5, 255]);
         (q.flat, q.uniform) = (r.pick(&[0, 1, 255]), r.pick(&[0, 1, 255]));
+    }),
+    (12, |r, q| {
+        let value = r.pick(&[0, 1, 2, 3, 4, 5, 255]);
+        spoil_near(r, q, |q| &mut q.kinds, value)
     }),
     (13, |r, q| spoil_near(r, q, |q| &mut q.marks, 1)),
     (14, |r, q| spoil_near(r, q, |q| &mut q.marks, 0)),
@@ -172,16 +177,6 @@ fn spoil(s: &mut Session, r: &mut Rng, mut q: Request, damages: &[(u32, Damage)]
 
 /// A change that is sure to call a number forth.
 pub type Sure = (u32, fn(&mut Request));
-
-/// Whether this filtering call can give the number: the whole picture has no place to be outside of, and marks
-/// are a visit's.
-pub fn can_give(call: Call, number: u32) -> bool {
-    match number {
-        2 => call != Call::Whole,
-        13 | 14 => call == Call::Visit,
-        _ => true,
-    }
-}
 
 /// Two changes of `sure`: the one that stands first there, since it is asked first, is the answer.
 pub fn pair(s: &mut Session, mut q: Request, sure: &[Sure], one: usize, other: usize) -> Outcome {

@@ -10,20 +10,25 @@ pub enum Call {
     Kind,
     Flags,
     Flagless,
+    /// A row of strengths, where `Rows` filters.
+    StrengthsRow,
     Whole,
     Rows,
     Visit,
 }
 
-pub const STRENGTH_CALLS: [Call; 3] = [Call::Kind, Call::Flags, Call::Flagless];
+/// The strength calls of one macroblock.
+pub const SINGLE_CALLS: [Call; 3] = [Call::Kind, Call::Flags, Call::Flagless];
+pub const STRENGTH_CALLS: [Call; 4] = [Call::Kind, Call::Flags, Call::Flagless, Call::StrengthsRow];
 pub const FILTER_CALLS: [Call; 3] = [Call::Whole, Call::Rows, Call::Visit];
-pub const CALLS: [Call; 6] = [Call::Kind, Call::Flags, Call::Flagless, Call::Whole, Call::Rows, Call::Visit];
+pub const CALLS: [Call; 7] =
+    [Call::Kind, Call::Flags, Call::Flagless, Call::StrengthsRow, Call::Whole, Call::Rows, Call::Visit];
 
 impl Call {
     /// Whether the call is lent the 4x4 grids and writes strengths; the others are lent planes and read
     /// strengths.
     pub fn is_strengths(self) -> bool {
-        matches!(self, Call::Kind | Call::Flags | Call::Flagless)
+        STRENGTH_CALLS.contains(&self)
     }
 
     /// In words; a filtering call with slices is another call.
@@ -80,10 +85,10 @@ pub struct Request {
     /// 0 a frame, 1 its top field, 2 its bottom field. To a strength call any byte but 0 says that the
     /// picture is a field.
     pub part: u8,
-    /// The macroblock of a strength call or a visit.
+    /// The macroblock of a strength call or a visit; of a row of strengths `y` alone.
     pub x: usize,
     pub y: usize,
-    /// The rows of a row call.
+    /// The rows that a row call filters.
     pub first: usize,
     pub last: usize,
     pub kind: u8,
@@ -96,6 +101,8 @@ pub struct Request {
     /// The records of slices, and for each macroblock the number of its own.
     pub slices: Buffer<SliceRecord>,
     pub numbers: Buffer<u16>,
+    /// Of a row of strengths: for each macroblock of the picture its kind, or none.
+    pub kinds: Buffer<u8>,
     pub inter: Buffer<u8>,
     pub nnz: Buffer<u8>,
     pub ref0: Buffer<i8>,
@@ -131,6 +138,7 @@ impl Request {
             sliced: false,
             slices: Buffer::default(),
             numbers: Buffer::default(),
+            kinds: Buffer::default(),
             inter: Buffer::default(),
             nnz: Buffer::default(),
             ref0: Buffer::default(),
@@ -152,6 +160,24 @@ impl Request {
     /// The number of the request's macroblock in raster order.
     pub fn at(&self) -> usize {
         self.y * self.w + self.x
+    }
+
+    /// The kind that a strength call is told of a macroblock, if any.
+    pub fn kind_of(&self, macroblock: usize) -> Option<u8> {
+        match self.call {
+            Call::Kind => Some(self.kind),
+            Call::StrengthsRow => self.kinds.get(macroblock).copied(),
+            _ => None,
+        }
+    }
+
+    /// A row of strengths as the single call of its macroblock in this column: by kind where kinds are lent.
+    pub fn turn_to(&mut self, x: usize) {
+        self.x = x;
+        (self.call, self.kind) = match self.kinds.get(self.at()) {
+            Some(kind) => (Call::Kind, *kind),
+            None => (Call::Flagless, 0),
+        };
     }
 
     /// The number of the macroblock that a 4x4 block lies in.
@@ -189,7 +215,8 @@ impl Request {
 
     /// The first thing that differs between two requests, in words.
     pub fn difference(&self, other: &Request) -> Option<String> {
-        differs("inter", &self.inter, &other.inter)
+        differs("kinds", &self.kinds, &other.kinds)
+            .or_else(|| differs("inter", &self.inter, &other.inter))
             .or_else(|| differs("nnz", &self.nnz, &other.nnz))
             .or_else(|| differs("ref0", &self.ref0, &other.ref0))
             .or_else(|| differs("mv0", &self.mv0, &other.mv0))
@@ -210,6 +237,7 @@ impl Request {
 
     /// Undoes the step from `before` to `after` in every entry that is still as in `after`.
     pub fn undo(&mut self, before: &Request, after: &Request) {
+        self.kinds.undo(&before.kinds, &after.kinds);
         self.inter.undo(&before.inter, &after.inter);
         self.nnz.undo(&before.nnz, &after.nnz);
         self.ref0.undo(&before.ref0, &after.ref0);

@@ -4,9 +4,10 @@ use crate::counts::Counts;
 use crate::expect::{expect, second_opinion};
 use crate::finality;
 use crate::original;
-use crate::request::{Call, Request, Structure};
+use crate::request::{Call, Request, Structure, CALLS, FILTER_CALLS};
 use crate::shrink;
 use crate::subject::Subject;
+use crate::table;
 use std::collections::BTreeMap;
 use std::fmt;
 
@@ -91,6 +92,9 @@ impl<'a> Session<'a> {
         let asks = !decides || self.by_original.is_multiple_of(MODEL_ASKED);
         let other = asks.then(|| second_opinion(r)).flatten();
         self.note(held_to(r, decides, other.is_some()));
+        if r.call == Call::StrengthsRow {
+            self.note(held_to_in_rows(decides, other.is_some()));
+        }
         if r.has_tables() {
             self.note(held_to_with_tables(decides, other.is_some()));
         }
@@ -151,9 +155,15 @@ impl<'a> Session<'a> {
         self.counts.calls(|(.., sliced)| *sliced)
     }
 
-    /// How often a number was answered, over everything.
-    pub fn answered(&self, number: u32) -> u64 {
-        self.counts.answered(number)
+    /// The numbers that a call could have answered and has not, in words.
+    pub fn unseen(&self) -> Vec<String> {
+        let calls = CALLS.map(|call| (call, false)).into_iter().chain(FILTER_CALLS.map(|call| (call, true)));
+        let all = calls.flat_map(|(call, sliced)| table::numbers().map(move |number| (call, sliced, number)));
+        let unseen = all.filter(|&(call, sliced, number)| {
+            let is_own = |(.., own, with_slices): &(_, _, Call, bool)| (*own, *with_slices) == (call, sliced);
+            table::can_give(call, sliced, number) && self.counts.answered(is_own, number) == 0
+        });
+        unseen.map(|(call, sliced, number)| format!("{number} of {}", call.name(sliced))).collect()
     }
 
     pub fn print(&self) {
@@ -184,6 +194,16 @@ fn held_to(r: &Request, original_decides: bool, both: bool) -> &'static str {
         (Structure::Frame, false, true) => "calls on frames with 8x8 flags, held to the model and to the original",
         (Structure::Field, _, false) => "calls on fields, held to the model",
         (Structure::Field, _, true) => "calls on fields, held to the model and to the original",
+    }
+}
+
+/// What a row of strengths is held to, in words; it is told as any other call too.
+fn held_to_in_rows(original_decides: bool, both: bool) -> &'static str {
+    match (original_decides, both) {
+        (true, false) => "rows of strengths among these, held to the original, asked by macroblocks",
+        (true, true) => "rows of strengths among these, held to the original, asked by macroblocks, and to the model",
+        (false, false) => "rows of strengths among these, held to the model",
+        (false, true) => "rows of strengths among these, held to the model and to the original, asked by macroblocks",
     }
 }
 

@@ -18,6 +18,7 @@ pub fn smallest(r: &Request, fails: impl Fn(&Request) -> bool) -> Request {
     }
     plain_numbers(&mut best, &fails);
     let mut keep = |r: &Request| Instant::now() < end && fails(r);
+    plain(&mut best, |r| &mut r.kinds, 3, &mut keep);
     plain(&mut best, |r| &mut r.t8s, 0, &mut keep);
     plain(&mut best, |r| &mut r.nnz, 0, &mut keep);
     plain(&mut best, |r| &mut r.pictures1, 0, &mut keep);
@@ -67,12 +68,14 @@ fn crop(r: &Request, area: [usize; 4]) -> Option<Request> {
     let (w, h) = (x1 - x0, y1 - y0);
     let mut c = r.clone();
     (c.w, c.h) = (w, h);
-    let has_place = !matches!(r.call, Call::Whole | Call::Rows);
-    let shifted = |at: usize, from: usize| if has_place { at.checked_sub(from) } else { Some(0) };
-    (c.x, c.y) = (shifted(r.x, x0)?, shifted(r.y, y0)?);
+    let has_row = !matches!(r.call, Call::Whole | Call::Rows);
+    let has_column = has_row && r.call != Call::StrengthsRow;
+    let shifted = |has_place: bool, at: usize, from: usize| if has_place { at.checked_sub(from) } else { Some(0) };
+    (c.x, c.y) = (shifted(has_column, r.x, x0)?, shifted(has_row, r.y, y0)?);
     c.first = r.first.saturating_sub(y0).min(h);
     c.last = r.last.saturating_sub(y0).min(h);
     let old = r.w;
+    cut(&mut c.kinds, old, r.h, (1, 1), area)?;
     cut(&mut c.inter, old, r.h, (4, 4), area)?;
     cut(&mut c.nnz, old, r.h, (4, 4), area)?;
     cut(&mut c.ref0, old, r.h, (4, 4), area)?;
@@ -118,6 +121,7 @@ fn plain_numbers(best: &mut Request, fails: &impl Fn(&Request) -> bool) {
         r.mv1 = Buffer::default();
     });
     attempt(best, fails, |r| r.t8s = Buffer::default());
+    attempt(best, fails, |r| r.kinds = Buffer::default());
     attempt(best, fails, |r| r.tables().into_iter().for_each(|table| *table = Buffer::default()));
     for list in 0..2 {
         shorter(best, fails, |r| r.lists()[list].pictures.len(), |r, to| r.tables()[list].resize(to, 0));
@@ -184,6 +188,7 @@ pub fn describe(r: &Request) -> String {
     say(format_args!(" x {} y {} first {} last {}", r.x, r.y, r.first, r.last));
     say(format_args!(" kind {} flat {} uniform {} offsets {:?}", r.kind, r.flat, r.uniform, r.offsets));
     let entries = [
+        entries("kinds (else 3)", &r.kinds, 3),
         entries("inter (else 1)", &r.inter, 1),
         entries("nnz", &r.nnz, 0),
         entries("ref0", &r.ref0, 0),
@@ -243,6 +248,16 @@ mod tests {
         let small = smallest(&q, |r| r.pictures1.contains(&300));
         assert_eq!((small.w, small.h, small.pictures0.len()), (1, 1, 0));
         assert_eq!(small.pictures1[..], [0, 0, 0, 0, 0, 0, 300]);
+    }
+
+    /// A row comes down to the macroblock that matters, wherever in it that is.
+    #[test]
+    fn a_row_becomes_one_macroblock() {
+        let mut q = crate::make::blocks(&mut inputs::Rng::new(8), Structure::Frame, Call::StrengthsRow, 5, 3);
+        (q.y, q.kinds) = (1, vec![0; 15].into());
+        q.kinds[8] = 9;
+        let small = smallest(&q, |r| r.kinds.iter().skip(r.w * r.y).take(r.w).any(|kind| *kind == 9));
+        assert_eq!((small.w, small.h, small.y, &small.kinds[..]), (1, 1, 0, &[9][..]));
     }
 
     #[test]

@@ -5,6 +5,7 @@ use crate::request::{Call, Request, Structure, FILTER_CALLS};
 use crate::session::{Outcome, Session};
 use crate::small_fields;
 use crate::small_flags;
+use crate::small_rows;
 use crate::small_slices;
 use crate::small_tables;
 use inputs::{Rng, Texture};
@@ -29,6 +30,7 @@ pub fn run(s: &mut Session, share: usize) -> Outcome {
             every_pair_of_motions(s, &mut thin, part)?;
             every_kind_of_macroblock(s, &mut thin, part)?;
             small_flags::run(s, &mut thin, part)?;
+            small_rows::run(s, &mut thin, part)?;
             small_tables::run(s, &mut thin, part)?;
         }
     }
@@ -182,7 +184,7 @@ fn every_side(s: &mut Session, thin: &mut Thin, of: Structure) -> Outcome {
         if thin.takes() {
             let (w, h) = if tall == 1 { (other + 1, side + 1) } else { (side + 1, other + 1) };
             s.check("small", &make::picture(&mut r, of, [Call::Whole, Call::Visit][call], w, h))?;
-            s.check("small", &make::grids(&mut r, of, Call::Flagless, w, h))?;
+            s.check("small", &make::grids(&mut r, of, [Call::Flagless, Call::StrengthsRow][call], w, h))?;
         }
     }
     Ok(())
@@ -243,7 +245,8 @@ fn every_kind_of_macroblock(s: &mut Session, thin: &mut Thin, part: u8) -> Outco
     Ok(())
 }
 
-/// Of each macroblock by every kind, a wrong one among them, with all flags and with nothing known.
+/// Of each macroblock by every kind, a wrong one among them, with all flags and with nothing known; then of
+/// each row.
 pub fn ask_everywhere(s: &mut Session, q: &mut Request) -> Outcome {
     let kinds = (0..5).map(|kind| (Call::Kind, kind));
     let ways: Vec<(Call, u8)> =
@@ -254,6 +257,18 @@ pub fn ask_everywhere(s: &mut Session, q: &mut Request) -> Outcome {
             (q.call, q.kind, q.flat, q.uniform) = (*call, *number, number & 1, number & 2);
             s.check("small", q)?;
         }
+    }
+    ask_rows(s, q)
+}
+
+/// Of each row by kinds, of which each macroblock gets every one, and at last with nothing known.
+fn ask_rows(s: &mut Session, q: &mut Request) -> Outcome {
+    q.call = Call::StrengthsRow;
+    for (y, first) in (0..q.h).flat_map(|y| (0..6).map(move |first| (y, first))) {
+        let kinds = if first == 5 { 0 } else { q.w * q.h };
+        q.kinds = (0..kinds).map(|m| ((first + 2 * m) % 5) as u8).collect::<Vec<u8>>().into();
+        q.y = y;
+        s.check("small", q)?;
     }
     Ok(())
 }

@@ -4,6 +4,7 @@ use crate::refusals::{self, Sure};
 use crate::request::{Call, Request, FILTER_CALLS, STRENGTH_CALLS};
 use crate::session::{Outcome, Session};
 use crate::small::{blocky, product, two_macroblocks, Thin};
+use crate::table;
 use deblock::SliceRecord;
 
 pub fn run(s: &mut Session, thin: &mut Thin) -> Outcome {
@@ -16,14 +17,16 @@ pub fn run(s: &mut Session, thin: &mut Thin) -> Outcome {
 /// range of rows and not, with one slice and without; a strength call, which any byte but 0 tells of a field,
 /// side by side and one above the other, and under an intra macroblock.
 fn every_part(s: &mut Session) -> Outcome {
-    for (part, second, call, third) in product([256, 2, 3, 2]) {
+    for (part, second, call, third) in product([256, 2, STRENGTH_CALLS.len(), 2]) {
         let part = part as u8;
-        let q = Request { part, first: 2 * third, ..ready(second as u8, FILTER_CALLS[call]) };
-        s.check("parts", &q)?;
-        s.check("parts", &with_one_slice(q))?;
+        if let Some(filter) = FILTER_CALLS.get(call) {
+            let q = Request { part, first: 2 * third, ..ready(second as u8, *filter) };
+            s.check("parts", &q)?;
+            s.check("parts", &with_one_slice(q))?;
+        }
         let mut q = two_macroblocks(part, 2 - second, 1 + second, [[(5, (0, 0)); 2], [(5, (0, 2)); 2]]);
         q.inter[..16 * second * third].fill(0);
-        (q.call, q.kind) = (STRENGTH_CALLS[call], 3);
+        (q.call, q.kind, q.kinds) = (STRENGTH_CALLS[call], 3, vec![3; 2].into());
         s.check("parts", &q)?;
     }
     Ok(())
@@ -83,7 +86,7 @@ const SURE: [Sure; 13] = [
 fn every_pair_of_refusals(s: &mut Session) -> Outcome {
     for (first, second, call, field) in product([SURE.len(), SURE.len(), 3, 2]) {
         let call = FILTER_CALLS[call];
-        if [first, second].iter().all(|i| refusals::can_give(call, SURE[*i].0)) {
+        if [first, second].iter().all(|i| table::can_give(call, false, SURE[*i].0)) {
             refusals::pair(s, ready(1 + field as u8, call), &SURE, first, second)?;
         }
     }

@@ -4,6 +4,7 @@ use crate::refusals::{self, Sure};
 use crate::request::{Call, Request, FILTER_CALLS};
 use crate::session::{Outcome, Session};
 use crate::small::{blocky, product, Thin, SIZES};
+use crate::table;
 use deblock::SliceRecord;
 
 pub fn run(s: &mut Session, thin: &mut Thin, part: u8) -> Outcome {
@@ -217,7 +218,7 @@ fn every_pair_of_refusals(s: &mut Session, part: u8) -> Outcome {
         let call = FILTER_CALLS[call];
         let numbers = [first, second].map(|i| SURE[i].0);
         let is_cut = [5, 6].contains(&first.min(second)) && numbers.contains(&20);
-        if !is_cut && numbers.iter().all(|number| refusals::can_give(call, *number)) {
+        if !is_cut && numbers.iter().all(|number| table::can_give(call, true, *number)) {
             let mut q = ready(part, call, 2, 2);
             (q.x, q.y, q.t8s) = (1, 1, vec![0; 4].into());
             lend(&mut q, &[record(0, 0, 0), record(1, 2, 2), record(2, -2, 4)], &[1, 0, 0, 0]);

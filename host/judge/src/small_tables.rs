@@ -1,9 +1,10 @@
 //! Of reference tables in strength calls: everything, where everything is few.
 
 use crate::refusals::{self, Sure};
-use crate::request::{Buffer, Call, Request, STRENGTH_CALLS};
+use crate::request::{Buffer, Call, Request, SINGLE_CALLS, STRENGTH_CALLS};
 use crate::session::{Outcome, Session};
 use crate::small::{ask_everywhere, kinds_picture, product, two_macroblocks, Motion, Thin};
+use crate::table;
 
 pub fn run(s: &mut Session, thin: &mut Thin, part: u8) -> Outcome {
     every_pair_in_one_list(s, thin, part)?;
@@ -126,7 +127,7 @@ fn every_length(s: &mut Session, thin: &mut Thin, part: u8) -> Outcome {
 /// A macroblock of one motion in one list or two, by tables of which each has picture 7 twice.
 fn listed(part: u8, call: Call, two_lists: bool) -> Request {
     let mut q = kinds_picture(part, 1, 1, &[6]);
-    (q.call, q.kind) = (call, 3);
+    (q.call, q.kind, q.kinds) = (call, 3, vec![3].into());
     q.tables().into_iter().for_each(|table| *table = vec![7; 2].into());
     if !two_lists {
         without_list_1(&mut q);
@@ -137,7 +138,7 @@ fn listed(part: u8, call: Call, two_lists: bool) -> Request {
 /// The first and the last number that is taken, those next to them and those of an i32: at both ends of a
 /// table, and beside index 127. No reference names most of them.
 fn every_limit_of_numbers(s: &mut Session, part: u8) -> Outcome {
-    for (length, place, value, way) in product([LENGTHS.len(), 4, 6, 12]) {
+    for (length, place, value, way) in product([LENGTHS.len(), 4, 6, 4 * STRENGTH_CALLS.len()]) {
         let (list, two_lists, call) = (way % 2, way / 2 % 2 == 1, STRENGTH_CALLS[way / 4]);
         let last = LENGTHS[length] - 1;
         let mut q = listed(part, call, two_lists);
@@ -151,7 +152,7 @@ fn every_limit_of_numbers(s: &mut Session, part: u8) -> Outcome {
 
 /// Every set of list 1's two grids and of the tables that is left empty.
 fn every_set_of_tables(s: &mut Session, part: u8) -> Outcome {
-    for (call, grids, tables, _) in product([3, 4, 4, 1]) {
+    for (call, grids, tables, _) in product([STRENGTH_CALLS.len(), 4, 4, 1]) {
         let mut q = listed(part, STRENGTH_CALLS[call], true);
         let left = |set: usize, member: usize| set >> member & 1 == 1;
         if left(grids, 0) {
@@ -167,8 +168,8 @@ fn every_set_of_tables(s: &mut Session, part: u8) -> Outcome {
     Ok(())
 }
 
-/// What each refusal of a strength call on 2 by 2 macroblocks is sure to come of, in the order in which they
-/// are asked.
+/// What each refusal of the strength calls of one macroblock is sure to come of, on 2 by 2 macroblocks, in
+/// the order in which they are asked.
 const SURE: [Sure; 16] = [
     (1, |q| q.h = 257),
     (2, |q| q.x = 2),
@@ -188,16 +189,15 @@ const SURE: [Sure; 16] = [
     (12, |q| (q.kind, q.uniform) = (2, 1)),
 ];
 
-/// Each alone and each with each, in every call.
+/// Each alone and each with each, in every call of one macroblock.
 fn every_pair_of_refusals(s: &mut Session, part: u8) -> Outcome {
     for (first, second, call, _) in product([SURE.len(), SURE.len(), 3, 1]) {
-        let call = STRENGTH_CALLS[call];
+        let call = SINGLE_CALLS[call];
         let mut q = kinds_picture(part, 2, 2, &[2, 2, 2, 5]);
         (q.call, q.kind, q.x, q.y) = (call, 3, 1, 1);
         q.t8s = vec![0; 4].into();
         q.tables().into_iter().for_each(|table| *table = vec![7; 2].into());
-        let asked = |i: usize| call != Call::Flagless || SURE[i].0 != 12;
-        if asked(first) && asked(second) {
+        if [first, second].iter().all(|i| table::can_give(call, false, SURE[*i].0)) {
             refusals::pair(s, q, &SURE, first, second)?;
         }
     }

@@ -19,7 +19,7 @@ pub trait Subject {
 /// The proved filter. Of three calls one is made between guard elements, two between fences.
 pub struct Archive {
     turn: Cell<usize>,
-    fences: RefCell<[Fenced; 10]>,
+    fences: RefCell<[Fenced; 11]>,
 }
 
 impl Archive {
@@ -34,7 +34,7 @@ impl Archive {
     }
 
     /// Room for as many buffers as a call may take.
-    pub fn fences(&self) -> RefMut<'_, [Fenced; 10]> {
+    pub fn fences(&self) -> RefMut<'_, [Fenced; 11]> {
         self.fences.borrow_mut()
     }
 }
@@ -43,12 +43,13 @@ impl Archive {
     fn derive(&self, r: &mut Request) -> u32 {
         let side = self.next_side();
         let mut fences = self.fences();
-        let [f0, f1, f2, f3, f4, f5, f6, f7, f8, f9] = &mut *fences;
+        let [f0, f1, f2, f3, f4, f5, f6, f7, f8, f9, f10] = &mut *fences;
         let (t8s, mut strengths) = (f0.lend(&mut r.t8s, side), f1.lend(&mut r.strengths, side));
         let (inter, nnz) = (f2.lend(&mut r.inter, side), f3.lend(&mut r.nnz, side));
         let (ref0, mv0) = (f4.lend(&mut r.ref0, side), f5.lend(&mut r.mv0, side));
         let (ref1, mv1) = (f6.lend(&mut r.ref1, side), f7.lend(&mut r.mv1, side));
         let (pictures0, pictures1) = (f8.lend(&mut r.pictures0, side), f9.lend(&mut r.pictures1, side));
+        let kinds = f10.lend(&mut r.kinds, side);
 
         let size = Size { w: r.w, h: r.h };
         let mut picture = Picture { size, t8s: &t8s, strengths: &mut strengths, ..Picture::default() };
@@ -66,6 +67,7 @@ impl Archive {
         match r.call {
             Call::Kind => wire::strengths_kind(&mut picture, r.part, grids, at, r.kind),
             Call::Flags => wire::strengths_flags(&mut picture, r.part, grids, at, [r.flat, r.uniform]),
+            Call::StrengthsRow => wire::strengths_row(&mut picture, r.part, grids, r.y, &kinds),
             _ => wire::strengths(&mut picture, r.part, grids, at),
         }
     }

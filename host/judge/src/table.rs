@@ -31,14 +31,56 @@ const TABLE: [(u32, Check); 18] = [
     (14, neighbour_unmarked),
 ];
 
-/// The number of the first check that applies; 0 if none does.
+/// What a row of strengths is asked before its macroblocks are.
+const ROW: [(u32, Check); 3] = [(1, size_out_of_range), (2, place_outside), (4, kinds_of_wrong_length)];
+
+/// The number of the first check that applies; 0 if none does. A row of strengths answers what the first of
+/// its macroblocks that is refused does, from the left on.
 pub fn answer(r: &Request) -> u32 {
-    TABLE.iter().find(|(_, applies)| applies(r)).map_or(0, |(number, _)| *number)
+    match r.call {
+        Call::StrengthsRow => match row_answer(r) {
+            0 => singles_answer(r),
+            number => number,
+        },
+        _ => first(&TABLE, r),
+    }
+}
+
+fn first(checks: &[(u32, Check)], r: &Request) -> u32 {
+    checks.iter().find(|(_, applies)| applies(r)).map_or(0, |(number, _)| *number)
+}
+
+/// What a row of strengths answers of itself.
+pub fn row_answer(r: &Request) -> u32 {
+    first(&ROW, r)
+}
+
+fn singles_answer(r: &Request) -> u32 {
+    let mut single = r.clone();
+    let mut answers = (0..r.w).map(|x| {
+        single.turn_to(x);
+        answer(&single)
+    });
+    answers.find(|number| *number != 0).unwrap_or(0)
 }
 
 /// All numbers that a call may answer, 0 first.
 pub fn numbers() -> impl Iterator<Item = u32> {
     std::iter::once(0).chain(TABLE.iter().map(|(number, _)| *number))
+}
+
+/// Whether the call can give the number: the whole picture has no place to be outside of, and marks are a
+/// visit's.
+pub fn can_give(call: Call, sliced: bool, number: u32) -> bool {
+    match number {
+        2 => call != Call::Whole,
+        19 | 3 | 6 | 8 | 9 => !call.is_strengths(),
+        20 | 21 => sliced,
+        5 | 10 | 22 | 11 => call.is_strengths(),
+        12 => call.is_strengths() && call != Call::Flagless,
+        13 | 14 => call == Call::Visit,
+        _ => true,
+    }
 }
 
 fn size_out_of_range(r: &Request) -> bool {
@@ -55,6 +97,7 @@ fn place_outside(r: &Request) -> bool {
     match r.call {
         Call::Whole => false,
         Call::Rows => !(r.first <= r.last && r.last <= r.h),
+        Call::StrengthsRow => r.y >= r.h,
         _ => r.x >= r.w || r.y >= r.h,
     }
 }
@@ -77,6 +120,10 @@ fn macroblock_grid_of_wrong_length(r: &Request) -> bool {
         || !r.call.is_strengths() && r.qps.len() != n
         || r.call == Call::Visit && r.marks.len() != n
         || r.sliced && r.numbers.len() != n
+}
+
+fn kinds_of_wrong_length(r: &Request) -> bool {
+    r.kinds.len() != r.w * r.h && !r.kinds.is_empty()
 }
 
 fn block_grid_of_wrong_length(r: &Request) -> bool {
@@ -175,12 +222,21 @@ pub fn macroblocks_read(r: &Request) -> Range<usize> {
     }
 }
 
+/// The macroblocks whose strengths a strength call writes, and of a row the kinds that it reads.
+pub fn macroblocks_written(r: &Request) -> Range<usize> {
+    match r.call {
+        Call::StrengthsRow => r.w * r.y..r.w * (r.y + 1),
+        _ => r.at()..r.at() + 1,
+    }
+}
+
 /// The macroblocks whose 8x8 flags are read, of a grid that is not empty: a filtering call reads those of the
 /// macroblocks that it filters, a strength call its own and those to the left and above.
 pub fn flags_read(r: &Request) -> Vec<usize> {
     match r.call {
         _ if r.t8s.is_empty() => Vec::new(),
         Call::Whole | Call::Rows | Call::Visit => macroblocks_read(r).collect(),
+        Call::StrengthsRow => (r.w * r.y.saturating_sub(1)..r.w * (r.y + 1)).collect(),
         _ => neighbours(r, false),
     }
 }
@@ -219,16 +275,17 @@ fn neighbours(r: &Request, upper_right: bool) -> Vec<usize> {
 }
 
 /// The 4x4 blocks whose inter bytes, references and vectors a strength call reads: its 16, four to the left
-/// when x > 0, four above when y > 0.
+/// when x > 0, four above when y > 0. Of a row its macroblocks' own, and all above.
 pub fn blocks_read(r: &Request) -> [Vec<usize>; 3] {
     if !r.call.is_strengths() {
         return Default::default();
     }
     let block = |bx: usize, by: usize| by * 4 * r.w + bx;
-    let (bx, by) = (4 * r.x, 4 * r.y);
-    let own = (0..16).map(|i| block(bx + i % 4, by + i / 4)).collect();
-    let left = if r.x > 0 { (0..4).map(|i| block(bx - 1, by + i)).collect() } else { Vec::new() };
-    let above = if r.y > 0 { (0..4).map(|i| block(bx + i, by - 1)).collect() } else { Vec::new() };
+    let written = macroblocks_written(r);
+    let (bx, by, across) = (4 * (written.start % r.w), 4 * r.y, 4 * written.len());
+    let own = (0..4 * across).map(|i| block(bx + i % across, by + i / across)).collect();
+    let left = if bx > 0 { (0..4).map(|i| block(bx - 1, by + i)).collect() } else { Vec::new() };
+    let above = if by > 0 { (0..across).map(|i| block(bx + i, by - 1)).collect() } else { Vec::new() };
     [own, left, above]
 }
 

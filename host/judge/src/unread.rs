@@ -1,7 +1,8 @@
 //! What a call does not read: other bytes there change neither its answer nor what it makes of the rest, and
 //! come out as they went in. Of a field that is above all the lines of the other one, of a strength call the
-//! blocks and flags beside those that it reads, and picture numbers that no reference which is read names; of
-//! slices the numbers that are not read, and records of slices of which no macroblock is filtered.
+//! blocks and flags beside those that it reads, kinds of other rows, and picture numbers that no reference
+//! which is read names; of slices the numbers that are not read, and records of slices of which no macroblock
+//! is filtered.
 
 use crate::make;
 use crate::make_slices;
@@ -65,8 +66,9 @@ fn spoil(r: &mut Rng, q: &mut Request) {
     fill(r, &mut q.mv0, |i| is_block(i / 2));
     fill(r, &mut q.mv1, |i| is_block(i / 2));
 
-    let own = if q.call.is_strengths() { q.at()..q.at() + 1 } else { table::macroblocks_read(q) };
+    let own = if q.call.is_strengths() { table::macroblocks_written(q) } else { table::macroblocks_read(q) };
     fill(r, &mut q.strengths, |i| own.contains(&(i / 32)));
+    fill(r, &mut q.kinds, |i| own.contains(&i));
     let (flags, qps, marks) = (table::flags_read(q), table::qps_read(q), table::marks_read(q));
     fill(r, &mut q.t8s, |i| flags.contains(&i));
     fill(r, &mut q.qps, |i| qps.contains(&i));
@@ -149,6 +151,8 @@ mod tests {
             Mistake::AllQpsRead,
             Mistake::PastIsLast,
             Mistake::NoneIsFirst,
+            Mistake::AllKindsAsked,
+            Mistake::KindsFromStart,
         ];
         assert_eq!(too_many.into_iter().find(|mistake| !tells(check, Some(*mistake))), None);
     }

@@ -2,9 +2,9 @@
 
 use super::rows::Rust::{CannotBeLent, Does, DoesInRelease};
 use super::rows::{
-    around_block_0, beside, crossed_indices, flagless, frame, kind, one_slice, row, rows, two, two_indices, two_lists,
-    unused_tables, visit, whole_chroma, whole_lists, with, Row, ALL_0, EACH_ALONE, INNER_3, NOTHING, NO_FIELDS,
-    NO_SLICES, NO_VISITS, PANICS,
+    around_block_0, beside, crossed_indices, flagless, frame, kind, one_slice, row, rows, strengths_row, two,
+    two_indices, two_lists, unused_tables, visit, whole_chroma, whole_lists, with, Row, ALL_0, EACH_ALONE, INNER_3,
+    NOTHING, NO_FIELDS, NO_ROWS, NO_SLICES, NO_VISITS, PANICS,
 };
 use super::{edge, inter, intra, original, picture, strengths};
 use crate::request::{Call, Request};
@@ -56,6 +56,7 @@ pub const LENGTHS: &[Row] = &[
             ("a missing block counts as intra", |seen| !seen.as_with(|q| *q = inter(q.call, 1, 2))),
         ]),
     ),
+    row(2, "strengths of row 1 in 2 by 1", strengths_row, &[|q| q.y = 1], NO_ROWS),
     row(2, "rows 1 to 0 of 1", rows, &[|q| (q.first, q.last) = (1, 0)], Does(&[NOTHING])),
     row(2, "rows 2 to 2 of 1", rows, &[|q| (q.first, q.last) = (2, 2)], Does(&[NOTHING])),
     row(
@@ -190,6 +191,13 @@ pub const LENGTHS: &[Row] = &[
         beside,
         &[|q| q.t8s.resize(1, 0), |q| q.t8s.resize(3, 0)],
         CannotBeLent("it is lent none, and told of the macroblock's own alone, as a bool"),
+    ),
+    row(
+        4,
+        "one kind, or three, for the strengths of row 0 in 2 by 1",
+        strengths_row,
+        &[|q| q.kinds.resize(1, 3), |q| q.kinds.resize(3, 3)],
+        NO_ROWS,
     ),
     row(
         5,

@@ -25,6 +25,7 @@ pub enum Rust {
 }
 
 pub const NO_VISITS: Rust = Rust::CannotBeLent("it has no visits");
+pub const NO_ROWS: Rust = Rust::CannotBeLent("it has no call for the strengths of a row");
 pub const NO_FIELDS: Rust = Rust::CannotBeLent("it has no field pictures");
 pub const NO_SLICES: Rust = Rust::CannotBeLent("it has no slices");
 pub const NOTHING: Claim = ("does nothing", Seen::nothing);
@@ -93,6 +94,11 @@ pub fn flags() -> Request {
 
 pub fn kind(kind: u8) -> Request {
     with(inter(Call::Kind, 1, 1), |q| q.kind = kind)
+}
+
+/// The strengths of the row of two macroblocks, by kind.
+pub fn strengths_row() -> Request {
+    with(inter(Call::StrengthsRow, 2, 1), |q| q.kinds = vec![3; 2].into())
 }
 
 /// The macroblock to the right of another one.

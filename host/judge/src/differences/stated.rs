@@ -3,7 +3,7 @@
 
 use super::rows::{around_block_0, unlisted};
 use super::{edge, inter, intra, original, picture, strengths};
-use crate::request::{Call, Request, STRENGTH_CALLS};
+use crate::request::{Call, Request, SINGLE_CALLS};
 use crate::subject::{Archive, Subject};
 use deblock::SliceRecord;
 use oracle::{Offsets, Planes, Stored};
@@ -293,7 +293,7 @@ fn counts_under_8x8(archive: &Archive) -> bool {
 }
 
 fn counts_beside_8x8(archive: &Archive) -> bool {
-    STRENGTH_CALLS.into_iter().all(|call| {
+    SINGLE_CALLS.into_iter().all(|call| {
         let beside = |t8: u8| {
             let mut q = inter(call, 2, 1);
             (q.t8s, q.nnz[2]) = (vec![t8, 0].into(), 1);
@@ -304,7 +304,7 @@ fn counts_beside_8x8(archive: &Archive) -> bool {
 }
 
 fn kinds_under_8x8(archive: &Archive) -> bool {
-    let calls = STRENGTH_CALLS.map(|call| {
+    let calls = SINGLE_CALLS.map(|call| {
         let mut q = intra(call, 1, 1);
         q.t8s = vec![1].into();
         each(archive, &q)

@@ -3,8 +3,9 @@
 
 use super::rows::Rust::{CannotBeLent, Does, DoesInRelease};
 use super::rows::{
-    around_block_0, below, beside, flagless, flags, frame, kind, neighbours, no_references, one_slice, row, turned,
-    two, two_indices, unlisted, visit, with, Row, ALL_0, INNER_3, NO_FIELDS, NO_SLICES, NO_VISITS,
+    around_block_0, below, beside, flagless, flags, frame, kind, neighbours, no_references, one_slice, row,
+    strengths_row, turned, two, two_indices, unlisted, visit, with, Row, ALL_0, INNER_3, NO_FIELDS, NO_SLICES,
+    NO_VISITS,
 };
 use super::{edge, inter, intra, original, Seen};
 use crate::request::Call;
@@ -283,7 +284,13 @@ pub const VALUES: &[Row] = &[
         Does(&[ALL_0]),
     ),
     row(12, "kind Inter for an intra macroblock", || intra(Call::Kind, 1, 1), &[|q| q.kind = 3], Does(&[INNER_3])),
-    row(12, "kind 4", || kind(3), &[|q| q.kind = 4], CannotBeLent("`MbKind` has four values")),
+    row(
+        12,
+        "kind 4, of a macroblock or among those of a row",
+        || kind(3),
+        &[|q| q.kind = 4, |q| *q = with(strengths_row(), |q| q.kinds[1] = 4)],
+        CannotBeLent("`MbKind` has four values"),
+    ),
     row(
         12,
         "flag flat for a count 1 in block 0",

@@ -1,7 +1,9 @@
 //! The table by cases that are worked by hand.
 
+mod rows;
+
 use super::*;
-use crate::request::{FILTER_CALLS, STRENGTH_CALLS};
+use crate::request::{FILTER_CALLS, SINGLE_CALLS, STRENGTH_CALLS};
 use deblock::SliceRecord;
 
 /// A visit of (1, 1) in 3 by 2, ready, to which nothing applies.
@@ -205,7 +207,7 @@ fn what_is_not_read_does_not_count() {
     assert_eq!(after(visit(), |q| q.strengths[0] = 9), 0);
     assert_eq!(after(visit(), |q| q.t8s = Vec::new().into()), 0);
     assert_eq!(after(strengths(Call::Flagless), |q| q.inter[0] = 9), 0);
-    for call in STRENGTH_CALLS {
+    for call in SINGLE_CALLS {
         assert_eq!(after(strengths(call), |q| q.t8s = vec![9, 1, 1, 1].into()), 0, "upper left");
         assert_eq!(after(strengths(call), |q| (q.x, q.t8s) = (0, vec![1, 9, 1, 9].into())), 0, "to the right");
         assert_eq!(after(strengths(call), |q| (q.y, q.t8s) = (0, vec![1, 1, 9, 9].into())), 0, "below");
@@ -267,7 +269,7 @@ fn just_one_table() {
 
 #[test]
 fn picture_numbers() {
-    for call in STRENGTH_CALLS {
+    for call in SINGLE_CALLS {
         for refs in [[Some(0), None], [Some(-1), None], [Some(0), Some(0)], [Some(5), Some(-1)]] {
             let entry = |value| {
                 let long: Vec<i32> = (0..300).map(|i| if i == 299 { value } else { 7 }).collect();
@@ -357,6 +359,19 @@ fn kinds_and_flags() {
     };
     assert_eq!([flags(0, 0), flags(1, 0), flags(0, 1), flags(1, 1), flags(0, 255)], [0, 12, 0, 12, 0]);
     assert_eq!(after(strengths(Call::Flags), |q| q.flat = 1), 0, "flat alone is judged alone");
+}
+
+/// As include/deblock.h has them.
+#[test]
+fn what_calls_answer() {
+    let answers = |call, sliced| numbers().filter(|number| can_give(call, sliced, *number)).collect::<Vec<u32>>();
+    assert_eq!(answers(Call::Flagless, false), [0, 1, 2, 4, 5, 7, 10, 22, 11]);
+    for call in [Call::Kind, Call::Flags, Call::StrengthsRow] {
+        assert_eq!(answers(call, false), [0, 1, 2, 4, 5, 7, 10, 22, 11, 12]);
+    }
+    assert_eq!(answers(Call::Whole, false), [0, 1, 19, 3, 4, 6, 7, 8, 9]);
+    assert_eq!(answers(Call::Rows, true), [0, 1, 2, 19, 3, 4, 6, 7, 8, 9, 20, 21]);
+    assert_eq!(answers(Call::Visit, true), [0, 1, 2, 19, 3, 4, 6, 7, 8, 9, 20, 21, 13, 14]);
 }
 
 #[test]

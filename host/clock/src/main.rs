@@ -22,10 +22,11 @@ That of two fields, to the original's whole frame of the same samples, has none,
 raster order with the question after each what it has made final, to these visits alone, nor that of two
 chroma offsets, to the archive's own whole picture with one, nor those of calls with slices of mode 0.
 
-clock strengths [PICTURES]: the three strength calls likewise, on every macroblock of such pictures, PICTURES
-of each content (20 or more; 100 without), with a bound for each call, and tries and exit status as above.
-The call by kind on intra macroblocks, of which the original copies a constant, has none. Where 8x8 flags are
-lent the original's call by kind, which takes no flag, is timed without.";
+clock strengths [PICTURES]: the four strength calls likewise, on every macroblock of such pictures, PICTURES
+of each content (20 or more; 100 without), with a bound for each call, and tries and exit status as above. The
+row call is timed by kinds and with nothing known, beside the original's call of each macroblock of the row.
+Calls by kind on intra macroblocks, of which the original copies a constant, have no bound. Where 8x8 flags
+are lent the original's call by kind, which takes no flag, is timed without.";
 
 /// What is run, of how many pictures without a word, and of how many at least.
 struct Clock {

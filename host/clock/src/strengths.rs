@@ -26,9 +26,10 @@ use std::process::ExitCode;
 /// Times all contents; whether every ratio is within its bound is the exit status.
 pub fn clock(pictures: usize) -> ExitCode {
     println!("{pictures} pictures of {} by {} of each content, CPU time in nanoseconds a macroblock", 16 * W, 16 * H);
+    println!("kinds, row: by the row call with kinds and with nothing known, beside the Rust's of each macroblock");
     let heads = ["the Rust's", "the archive's", "of the Rust's time", "bound"];
-    line("", heads.map(|head| format!("{head:>24}")));
-    line("", [(); 4].map(|()| cells(["kind", "flags", "plain"].map(String::from))));
+    line("", heads.map(|head| format!("{head:>35}")));
+    line("", [(); 4].map(|()| cells(["kind", "flags", "plain", "kinds", "row"].map(String::from))));
     told(are_within(&CONTENTS, |content| row(content, pictures)))
 }
 
@@ -45,14 +46,14 @@ fn row(content: &Content, pictures: usize) -> bool {
     let theirs = of_calls(|[_, original]| 1e9 * original).map(|time| format!("{time:.1}"));
     let ours = of_calls(|[archive, _]| 1e9 * archive).map(|time| format!("{time:.1}"));
     let ratios = of_calls(|[archive, original]| archive / original);
-    let bounds = content.bounds.map(|bound| bound.map_or("-".into(), |bound| format!("{bound:.2}")));
-    line(content.name, [theirs, ours, ratios.map(|ratio| format!("{ratio:.2}")), bounds].map(cells));
+    let [ratios_shown, bounds] = [ratios, content.bounds].map(|of_calls| of_calls.map(|ratio| format!("{ratio:.2}")));
+    line(content.name, [theirs, ours, ratios_shown, bounds].map(cells));
     content.is_within(ratios)
 }
 
 /// One for each call.
-fn cells(of_calls: [String; 3]) -> String {
-    of_calls.map(|cell| format!("{cell:>8}")).concat()
+fn cells(of_calls: [String; 5]) -> String {
+    of_calls.map(|cell| format!("{cell:>7}")).concat()
 }
 
 fn line(name: &str, [theirs, ours, ratios, bounds]: [String; 4]) {

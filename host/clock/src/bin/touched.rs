@@ -174,6 +174,9 @@ fn strengths(show: &dyn Fn(&str, usize), part: Part, grids: Grids) {
     show("strengths by kind", deepest(|| assert!(p.derive_by_kind(grids, LAST, Kind::Inter).is_done())));
     show("strengths by flags", deepest(|| assert!(p.derive_by_flags(grids, LAST, Flags::default()).is_done())));
     show("strengths", deepest(|| assert!(p.derive(grids, LAST).is_done())));
+    let kinds = &[Kind::Inter; 4];
+    show("row's strengths by kinds", deepest(|| assert!(p.derive_row(grids, LAST.y, kinds).is_done())));
+    show("row's strengths", deepest(|| assert!(p.derive_row(grids, LAST.y, &[]).is_done())));
 }
 
 /// Without 8x8 flags: with them the original reads as much, and compares less.

@@ -1,4 +1,5 @@
-//! The three strength calls, the archive's and the original's, over all macroblocks of a picture.
+//! The strength calls, the archive's and the original's, over all macroblocks of a picture. The original has
+//! none of a row: beside ours it is asked for each macroblock.
 
 use super::grids::{is_8x8, Grids};
 use crate::cpu_time::timed;
@@ -17,6 +18,10 @@ pub enum Call {
     Flags,
     /// Nothing is known.
     Plain,
+    /// A row by kinds.
+    RowByKinds,
+    /// A row of which nothing is known.
+    Row,
 }
 
 /// A picture as both sides are lent it, and what the calls are told of its macroblocks.
@@ -46,7 +51,7 @@ fn flags(kind: Kind) -> Flags {
 }
 
 impl Call {
-    pub const ALL: [Call; 3] = [Call::Kind, Call::Flags, Call::Plain];
+    pub const ALL: [Call; 5] = [Call::Kind, Call::Flags, Call::Plain, Call::RowByKinds, Call::Row];
 
     /// The seconds a macroblock of the archive and of the original; `turn` says which comes first.
     pub fn times(self, lent: &Lent, turn: usize) -> [f64; 2] {
@@ -73,6 +78,8 @@ fn archive(call: Call, lent: &Lent) -> (f64, Vec<u8>) {
         Call::Kind => passes(|m, at| assert!(p.derive_by_kind(grids, at, kinds[m]).is_done())),
         Call::Flags => passes(|m, at| assert!(p.derive_by_flags(grids, at, flags[m]).is_done())),
         Call::Plain => passes(|_, at| assert!(p.derive(grids, at).is_done())),
+        Call::RowByKinds => row_passes(|y| assert!(p.derive_row(grids, y, kinds).is_done())),
+        Call::Row => row_passes(|y| assert!(p.derive_row(grids, y, &[]).is_done())),
     };
     (time, strengths)
 }
@@ -85,7 +92,7 @@ fn original(call: Call, lent: &Lent) -> (f64, Vec<u8>) {
     let mut packed = vec![MbBs::UNSET; W * H];
     let mut edges: Vec<Edges> = vec![[[[9; 4]; 4]; 2]; W * H];
     match call {
-        Call::Kind => {
+        Call::Kind | Call::RowByKinds => {
             let derive = black_box::<fn(&BlockInfo, usize, usize, MbKind) -> MbBs>(derive_mb_kind);
             let time = passes(|m, at| packed[m] = derive(info, at.x, at.y, kinds[m]));
             packed.iter_mut().zip(t8s).filter(|(_, t8)| **t8).for_each(|(own, _)| without_4x4_edges(own));
@@ -98,7 +105,7 @@ fn original(call: Call, lent: &Lent) -> (f64, Vec<u8>) {
             let strengths = edges.into_iter().flatten().flatten().flatten();
             (time, strengths.map(|strength| strength.try_into().expect("at most 4")).collect())
         }
-        Call::Plain => {
+        Call::Plain | Call::Row => {
             let derive = black_box::<fn(&BlockInfo, usize, usize, bool) -> MbBs>(derive_mb);
             let time = passes(|m, at| packed[m] = derive(info, at.x, at.y, t8s[m]));
             (time, bytes(&packed))
@@ -117,8 +124,12 @@ fn bytes(packed: &[MbBs]) -> Vec<u8> {
 
 /// The seconds a macroblock, in raster order, of which `derive` is told index and place.
 fn passes(mut derive: impl FnMut(usize, Place)) -> f64 {
-    let pass = |_| (0..H).for_each(|y| (0..W).for_each(|x| derive(y * W + x, Place { x, y })));
-    timed(|| (0..PASSES).for_each(pass)) / (PASSES * W * H) as f64
+    row_passes(|y| (0..W).for_each(|x| derive(y * W + x, Place { x, y })))
+}
+
+/// The same, of which `derive` is told the row.
+fn row_passes(mut derive: impl FnMut(usize)) -> f64 {
+    timed(|| (0..PASSES).for_each(|_| (0..H).for_each(&mut derive))) / (PASSES * W * H) as f64
 }
 
 #[cfg(test)]

@@ -30,3 +30,4 @@ pub mod TablesRefused
 pub mod Written
 pub mod Along
 pub mod RowOutcomes
+pub mod RowsAlike

@@ -42,10 +42,10 @@ module _ (size : Size) (field : Bool) (y : ℕ) (kinds t8s : List ℕ) (g : Grid
 -- ---- a row call with kinds that is done leaves what the one without kinds leaves, which is done too
 module _ (size : Size) (field : Bool) (y : ℕ) (kinds t8s : List ℕ) (g : Grids) (s : List ℕ) where
   -- what macroblock x answers, with the kinds and without
-  abbrev said : ℕ → ℕ
+  abbrev pub said : ℕ → ℕ
   said = answerAt size y (Flags false false) kinds t8s g (length s)
 
-  abbrev unsaid : ℕ → ℕ
+  abbrev pub unsaid : ℕ → ℕ
   unsaid = answerAt size y (Flags false false) [] t8s g (length s)
 
   checked : deriveRowAnswer size y kinds t8s g (length s) ≡ 0 → refusal (deriveRowChecks size y kinds) ≡ 0
@@ -56,7 +56,7 @@ module _ (size : Size) (field : Bool) (y : ℕ) (kinds t8s : List ℕ) (g : Grid
       go (yes h) = h
       go (no h) = absurd (h (sym (first-kept (size .w) said (refusal (deriveRowChecks size y kinds)) h) ∙ e))
 
-  each : deriveRowAnswer size y kinds t8s g (length s) ≡ 0 → (x : ℕ) → x < size .w → unsaid x ≡ 0
+  pub each : deriveRowAnswer size y kinds t8s g (length s) ≡ 0 → (x : ℕ) → x < size .w → unsaid x ≡ 0
   unfolding deriveRowAnswer
   each e x l =
       let a : said x ≡ 0 = first-zero (size .w) said (ap (firstOf (size .w) said) (sym (checked e)) ∙ e) x l in

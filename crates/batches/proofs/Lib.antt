@@ -8,6 +8,7 @@ pub mod MovedRows
 pub mod Parts
 pub mod Passes
 pub mod Refused
+pub mod Rulesets
 pub mod Segments
 pub mod Shapes
 pub mod Zips

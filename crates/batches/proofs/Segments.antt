@@ -8,7 +8,7 @@ use native.Mathlib.Nat.{not-suc-le-zero}
 use native.Mathlib.Omega.{arith}
 use borrow.Author.Tests.{eqb-true, le-ltb}
 use lib.Bits.{bit_or, or_add_and, and_le_l, and_le_r}
-use lib.Dec.{T, eqb, ltb, nltb→le}
+use lib.Dec.{T, ltb, nltb→le}
 use lib.ListN.{get_or}
 use Rattle.laws.specs.Local.{All}
 use Rattle.laws.proofs.Bools.{or-false}

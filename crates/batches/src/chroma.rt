@@ -19,7 +19,7 @@ use lines::planes::filter_chroma_line;
 use lines::tables::tc0_at;
 
 // What an edge is filtered with in both planes.
-#[derive(Drop)]
+#[derive(Clone, Copy)]
 pub struct Both {
     pub s: Four,
     pub u: Thresholds,
@@ -27,6 +27,7 @@ pub struct Both {
 }
 
 // The batch of two edges of both planes.
+#[tactic(auto, unfolding(crate::specs::Moves::taken_both))]
 fn take(u: &[u8], v: &[u8], at: usize, along: usize, step: usize) -> [u8; 128]
     requires step_in_bounds { (at + 7 * along + 7 * step < length u.now) × (at + 7 * along + 7 * step < length v.now) }
     requires straight { Straight 8 along step }
@@ -39,6 +40,7 @@ fn take(u: &[u8], v: &[u8], at: usize, along: usize, step: usize) -> [u8; 128]
 }
 
 // Both planes with their columns of the batch t stored.
+#[tactic(auto, unfolding(crate::specs::Moves::stored))]
 fn store(u: &mut [u8], v: &mut [u8], at: usize, along: usize, step: usize, t: [u8; 128])
     requires step_in_bounds { (at + 7 * along + 7 * step < length u.old) × (at + 7 * along + 7 * step < length v.old) }
     requires straight { Straight 8 along step }
@@ -69,6 +71,7 @@ fn tc0(tab: &[u8; 416], index: usize, bs: u8) -> u8
 
 // The lines of one edge of one plane one after the other, each at the strength of its segment: where no
 // second edge is in reach, as at the picture's border.
+#[tactic(auto, using(crate::proofs::Rulesets::chroma_turns), unfolding(crate::specs::Lines::short_lines))]
 pub fn chroma_lines(
     plane: &mut [u8],
     at: usize,
@@ -121,6 +124,7 @@ fn chroma_batch(t: [u8; 128], tab: &[u8; 416], first: Both, second: Both) -> [u8
 
 // In each plane the lines of the first edge one after the other, then those of the second, each at the
 // strength of its segment. Where none can change, no sample is read.
+#[tactic(auto, using(crate::proofs::Rulesets::pair_lines))]
 pub fn chroma_pair(
     u: &mut [u8],
     v: &mut [u8],

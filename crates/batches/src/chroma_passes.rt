@@ -14,6 +14,7 @@ use lines::planes::chroma_strong;
 use narrow::planes::chroma_capped;
 
 // The lines of the first edge, in rows 0 to 3, at strengths 1 to 3.
+#[tactic(auto, using(crate::proofs::Rulesets::passes))]
 fn first_normal(t: [u8; 128], tab: &[u8; 416], s: Four, l: Thresholds, m: Thresholds) -> [u8; 128]
     requires tab_value { tab.now ≡ tables }
     requires index_bound { (l.index < 52) × (m.index < 52) }
@@ -33,6 +34,7 @@ fn first_normal(t: [u8; 128], tab: &[u8; 416], s: Four, l: Thresholds, m: Thresh
 }
 
 // .. at strength 4.
+#[tactic(auto, using(crate::proofs::Rulesets::passes))]
 fn first_strong(t: [u8; 128], s: Four, l: Thresholds, m: Thresholds) -> [u8; 128]
     ensures { result ≡ up_to 16 (pass_of is_strong (uv_strength s) (short_at eight upper s l m)) t }
 {
@@ -49,6 +51,7 @@ fn first_strong(t: [u8; 128], s: Four, l: Thresholds, m: Thresholds) -> [u8; 128
 }
 
 // The lines of the second edge, in rows 4 to 7, at strengths 1 to 3.
+#[tactic(auto, using(crate::proofs::Rulesets::passes))]
 fn second_normal(t: [u8; 128], tab: &[u8; 416], s: Four, l: Thresholds, m: Thresholds) -> [u8; 128]
     requires tab_value { tab.now ≡ tables }
     requires index_bound { (l.index < 52) × (m.index < 52) }
@@ -68,6 +71,7 @@ fn second_normal(t: [u8; 128], tab: &[u8; 416], s: Four, l: Thresholds, m: Thres
 }
 
 // .. at strength 4.
+#[tactic(auto, using(crate::proofs::Rulesets::passes))]
 fn second_strong(t: [u8; 128], s: Four, l: Thresholds, m: Thresholds) -> [u8; 128]
     ensures { result ≡ up_to 16 (pass_of is_strong (uv_strength s) (short_at eight lower s l m)) t }
 {
@@ -84,6 +88,7 @@ fn second_strong(t: [u8; 128], s: Four, l: Thresholds, m: Thresholds) -> [u8; 12
 }
 
 // Each line of the first edge at its own strength.
+#[tactic(auto, using(crate::proofs::Rulesets::both_passes))]
 pub fn first_edge(t: [u8; 128], tab: &[u8; 416], s: Four, l: Thresholds, m: Thresholds) -> [u8; 128]
     requires tab_value { tab.now ≡ tables }
     requires index_bound { (l.index < 52) × (m.index < 52) }
@@ -93,6 +98,7 @@ pub fn first_edge(t: [u8; 128], tab: &[u8; 416], s: Four, l: Thresholds, m: Thre
 }
 
 // .. and of the second.
+#[tactic(auto, using(crate::proofs::Rulesets::both_passes))]
 pub fn second_edge(
     t: [u8; 128],
     tab: &[u8; 416],

@@ -8,7 +8,7 @@ ghost use Rattle.batches.specs.Lanes.{slot_of, strong_row, spread_of, four_each,
 use lines::tables::cap_at;
 
 // The strengths of an edge's four segments.
-#[derive(Drop)]
+#[derive(Clone, Copy)]
 pub struct Four {
     pub a: u8,
     pub b: u8,
@@ -18,7 +18,7 @@ pub struct Four {
 
 // What the lines of an edge are filtered with: alpha, beta, and the index that tC0 has in the tables. An
 // alpha of 0 leaves them all.
-#[derive(Drop)]
+#[derive(Clone, Copy)]
 pub struct Thresholds {
     pub alpha: u8,
     pub beta: u8,
@@ -127,6 +127,7 @@ pub fn any_weak(s: Four) -> bool
 }
 
 // Some line has a strength of 4: it has a bit that 0 to 3 have not.
+#[tactic(auto, using(crate::proofs::Rulesets::strong_bits))]
 pub fn any_strong(s: Four) -> bool
     ensures { result ≡ false → any is_strong s ≡ false }
 {

@@ -4,6 +4,8 @@
 // Lines are filtered by the functions of `narrow` and `lines`, lane beside lane, so that the compiler makes
 // vector code of them. It does so where a function that handles a batch is called from one place only and
 // inlined there; hence the equal functions for the first edge and for the second (docs/SPEED.md).
+#![tactic(auto)]
+
 pub mod chroma;
 pub mod chroma_passes;
 pub mod lanes;

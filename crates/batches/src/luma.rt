@@ -11,6 +11,7 @@ use crate::luma_passes::luma_batch;
 use crate::moves::{load_luma, store_luma, zip};
 
 // The batch of an edge.
+#[tactic(auto, unfolding(crate::specs::Moves::taken))]
 fn take(p: &[u8], at: usize, along: usize, step: usize) -> [u8; 128]
     requires step_in_bounds { at + 15 * along + 7 * step < length p.now }
     requires straight { Straight 16 along step }
@@ -23,6 +24,7 @@ fn take(p: &[u8], at: usize, along: usize, step: usize) -> [u8; 128]
 }
 
 // The plane with the batch t stored.
+#[tactic(auto, unfolding(crate::specs::Moves::stored))]
 fn store(p: &mut [u8], at: usize, along: usize, step: usize, t: [u8; 128])
     requires step_in_bounds { at + 15 * along + 7 * step < length p.old }
     requires straight { Straight 16 along step }
@@ -37,6 +39,7 @@ fn store(p: &mut [u8], at: usize, along: usize, step: usize, t: [u8; 128])
 
 // The lines one after the other, each at the strength of its segment. Where none can change, no sample is
 // read.
+#[tactic(auto, using(crate::proofs::Rulesets::edge_lines))]
 pub fn luma_lines(
     plane: &mut [u8],
     at: usize,

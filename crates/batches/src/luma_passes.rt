@@ -12,6 +12,7 @@ use lines::planes::luma_strong;
 use narrow::planes::luma_capped;
 
 // The lines of strengths 1 to 3.
+#[tactic(auto, using(crate::proofs::Rulesets::passes))]
 fn normal(t: [u8; 128], tab: &[u8; 416], s: Four, l: Thresholds) -> [u8; 128]
     requires tab_value { tab.now ≡ tables }
     requires index_bound { l.index < 52 }
@@ -31,6 +32,7 @@ fn normal(t: [u8; 128], tab: &[u8; 416], s: Four, l: Thresholds) -> [u8; 128]
 }
 
 // The lines of strength 4.
+#[tactic(auto, using(crate::proofs::Rulesets::passes))]
 fn strong(t: [u8; 128], s: Four, l: Thresholds) -> [u8; 128]
     ensures { result ≡ up_to 16 (pass_of is_strong (segment_strength 4 s) (long_at eight s l)) t }
 {
@@ -47,6 +49,7 @@ fn strong(t: [u8; 128], s: Four, l: Thresholds) -> [u8; 128]
 }
 
 // Each line at its own strength.
+#[tactic(auto, using(crate::proofs::Rulesets::both_passes))]
 pub fn luma_batch(t: [u8; 128], tab: &[u8; 416], s: Four, l: Thresholds) -> [u8; 128]
     requires tab_value { tab.now ≡ tables }
     requires index_bound { l.index < 52 }

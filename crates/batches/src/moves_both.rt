@@ -7,6 +7,7 @@ use crate::moves::copy8;
 
 // V first: begun like `load_cols`, the loads that both begin with are taken out of both as single bytes,
 // which costs 4 to 5 instructions in 100 on x86-64.
+#[tactic(auto, using(laws::proofs::Loop::loops))]
 pub fn load_rows(u: &[u8], v: &[u8], at: usize, stride: usize) -> [u8; 128]
     requires { (at + 7 * stride + 8 ≤ length u.now) × (at + 7 * stride + 8 ≤ length v.now) }
     ensures { result ≡ rows_in 0 8 at stride u.now (rows_in 8 8 at stride v.now empty_batch) }
@@ -19,6 +20,7 @@ pub fn load_rows(u: &[u8], v: &[u8], at: usize, stride: usize) -> [u8; 128]
     t
 }
 
+#[tactic(auto, using(laws::proofs::Loop::loops))]
 pub fn load_cols(u: &[u8], v: &[u8], at: usize, stride: usize) -> [u8; 128]
     requires { (at + 7 * stride + 8 ≤ length u.now) × (at + 7 * stride + 8 ≤ length v.now) }
     ensures { result ≡ cols_in 8 8 at stride v.now (cols_in 0 8 at stride u.now empty_batch) }
@@ -32,6 +34,7 @@ pub fn load_cols(u: &[u8], v: &[u8], at: usize, stride: usize) -> [u8; 128]
 }
 
 // Each plane's half of the batch, back into the plane.
+#[tactic(auto, using(laws::proofs::Loop::loops), unfolding(crate::specs::Moves::moved_rows))]
 pub fn store_rows(u: &mut [u8], v: &mut [u8], at: usize, stride: usize, t: [u8; 128])
     requires { (at + 7 * stride + 8 ≤ length u.old) × (at + 7 * stride + 8 ≤ length v.old) }
     ensures u_after { u.new ≡ moved_rows 8 8 at stride 0 16 t u.old }
@@ -43,6 +46,7 @@ pub fn store_rows(u: &mut [u8], v: &mut [u8], at: usize, stride: usize, t: [u8; 
     }
 }
 
+#[tactic(auto, using(laws::proofs::Loop::loops), unfolding(crate::specs::Moves::moved_rows))]
 pub fn store_cols(u: &mut [u8], v: &mut [u8], at: usize, stride: usize, t: [u8; 128])
     requires { (at + 7 * stride + 8 ≤ length u.old) × (at + 7 * stride + 8 ≤ length v.old) }
     ensures u_after { u.new ≡ moved_rows 8 8 at stride 0 8 t u.old }

@@ -1,13 +1,13 @@
 // The tables, end to end in one array: alpha at 0, beta at 52, caps at 104, QPC at 364. A cap is tC0 + 1;
-// an index has five, for strengths 0 to 4, of which those of 0 and 4 are 0. A caller makes the array once and
-// lends it down, since the compiler builds a constant array anew wherever it is used.
+// an index has five, for strengths 0 to 4, of which those of 0 and 4 are 0. They are a static, which is lent:
+// the compiler builds a constant array anew wherever it is used.
 ghost use Rattle.std.specs.Prelude.{◌≡◌, ◌<◌, pos, get_or};
 ghost use Rattle.lines.specs.Depth.{eight};
 ghost use Rattle.lines.specs.Tables.{alpha_at, beta_at, tc0_at};
 ghost use Rattle.lines.specs.Thresholds.{qpc_of};
 ghost use Rattle.lines.specs.Inner.{tables, cap_row};
 
-const TABLES: [u8; 416] = [
+static TABLES: [u8; 416] = [
     0, 0, 0, 0, 0, 0, 0, 0, 0, 0, 0, 0, 0, 0, 0, 0, 4, 4, 5, 6, 7, 8, 9, 10, 12, 13, 15, 17, 20,
     22, 25, 28, 32, 36, 40, 45, 50, 56, 63, 71, 80, 90, 101, 113, 127, 144, 162, 182, 203, 226,
     255, 255, 0, 0, 0, 0, 0, 0, 0, 0, 0, 0, 0, 0, 0, 0, 0, 0, 2, 2, 2, 3, 3, 3, 3, 4, 4, 4, 6, 6,
@@ -26,10 +26,19 @@ const TABLES: [u8; 416] = [
 ];
 
 // All four.
+#[tactic(auto, unfolding(crate::specs::Inner::tables, crate::specs::Tables::alphas, crate::specs::Tables::betas, crate::specs::Tables::tc0s, crate::specs::Tables::qpcs))]
 pub fn all() -> [u8; 416]
     ensures { result ≡ tables }
 {
     TABLES
+}
+
+// The same, lent for as long as anyone likes: nothing is made anew.
+#[tactic(auto, unfolding(crate::specs::Inner::tables, crate::specs::Tables::alphas, crate::specs::Tables::betas, crate::specs::Tables::tc0s, crate::specs::Tables::qpcs))]
+pub fn lent() -> &'static [u8; 416]
+    ensures { result.now ≡ tables }
+{
+    &TABLES
 }
 
 // One number of them, whatever i is below 416.
@@ -42,6 +51,7 @@ pub fn entry(t: &[u8; 416], i: usize) -> u8
 }
 
 // alpha' and beta' of an index.
+#[tactic(auto, using(crate::proofs::Rulesets::table_parts))]
 pub fn alpha_at(t: &[u8; 416], i: usize) -> u8
     requires t_value { t.now ≡ tables }
     requires i_bound { i < 52 }
@@ -50,6 +60,7 @@ pub fn alpha_at(t: &[u8; 416], i: usize) -> u8
     entry(t, i)
 }
 
+#[tactic(auto, using(crate::proofs::Rulesets::table_parts))]
 pub fn beta_at(t: &[u8; 416], i: usize) -> u8
     requires t_value { t.now ≡ tables }
     requires i_bound { i < 52 }
@@ -59,6 +70,7 @@ pub fn beta_at(t: &[u8; 416], i: usize) -> u8
 }
 
 // The cap of a line at index i, by its strength.
+#[tactic(auto, using(crate::proofs::Rulesets::table_parts))]
 pub fn cap_at(t: &[u8; 416], i: usize, s: usize) -> u8
     requires t_value { t.now ≡ tables }
     requires i_bound { i < 52 }
@@ -79,6 +91,7 @@ pub fn tc0_at(t: &[u8; 416], i: usize, s: usize) -> u8
 }
 
 // QPC of qPI = i.
+#[tactic(auto, using(crate::proofs::Rulesets::table_parts))]
 pub fn qpc_at(t: &[u8; 416], i: usize) -> u8
     requires t_value { t.now ≡ tables }
     requires i_bound { i < 52 }

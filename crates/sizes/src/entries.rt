@@ -4,6 +4,7 @@ ghost use Rattle.sizes.specs.Entries.{flag_at, bad_flag_count, bad_before, bad_n
 ghost use Rattle.sizes.specs.Inner.{InPicture};
 
 // The 8x8 flag of macroblock i.
+#[tactic(auto, unfolding(crate::specs::Entries::flag_at))]
 pub fn flag_at(t8s: &[u8], i: usize) -> bool
     requires { eqb (length t8s.now) 0 ≡ false → i < length t8s.now }
     ensures { result ≡ flag_at t8s.now i }

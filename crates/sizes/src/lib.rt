@@ -1,12 +1,14 @@
 // A picture's size, which lines of the planes it has, entries of its grids by macroblock, and checks of all
 // three that several calls make. Whatever speaks of pictures stands on this crate.
+#![tactic(auto)]
+
 ghost use Rattle.std.specs.Prelude.{◌≡◌, ◌≤◌};
 ghost use Rattle.sizes.specs.Sizes.{bad_size, bad_parity, bad_planes};
 
 pub mod entries;
 
 // Width and height in macroblocks.
-#[derive(Drop)]
+#[derive(Clone, Copy)]
 pub struct Size {
     pub w: usize,
     pub h: usize,
@@ -14,7 +16,7 @@ pub struct Size {
 
 // Which part of a frame's planes a picture is: the frame itself, or the field of a parity, which is a picture
 // of its own on every second line: 0 the even lines, 1 the odd ones.
-#[derive(Drop)]
+#[derive(Clone, Copy)]
 pub enum Part {
     Frame,
     Field(u8),

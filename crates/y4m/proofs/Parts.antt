@@ -1,13 +1,17 @@
 -- Laws of the parts of a text: the first one, and the others behind it. Assumes nothing.
-use Prim.Native.Nat.{ℕ, suc, ◌<◌, ◌≤◌}
-use mathlib.Core.Path.{◌≡◌, refl, sym, ap, ◌∙◌}
-use mathlib.Core.Bool.{Bool, true, false, cond}
+use Prim.Native.Nat.{ℕ, suc, ◌+◌, ◌<◌, ◌≤◌}
+use mathlib.Core.Path.{◌≡◌, refl, ap, ◌∙◌}
+use mathlib.Core.Bool.{Bool, true, false, cond, not}
 use mathlib.Core.List.{List, [], ◌∷◌}
 use native.Mathlib.Nat.{le_of_suc-le-suc, not-suc-le-zero}
 use native.Mathlib.Omega.{arith}
-use lib.Dec.{eqb}
+use lib.Dec.{eqb, ltb}
 use lib.ListN.{length, take, drop}
-use Rattle.bytes.specs.Bytes.{index_of, index_after}
+use Rattle.std.specs.Prelude.{Some, None}
+use Rattle.std.specs.List.{position_or_len, position}
+use Rattle.std.proofs.lemmas.List.Sums.{prefix_len-le-length}
+use borrow.Author.Tests.{ltb-false}
+use Rattle.std.proofs.lemmas.List.Recursion.{is_position_or_len}
 use Rattle.y4m.specs.Text.{parts, part, on_first}
 
 -- there is always a first part
@@ -29,16 +33,37 @@ pub first-grows : (x : ℕ) (ps : List (List ℕ)) → ps ≡ part 0 ps ∷ drop
 first-grows x [] h = absurd (let z = ap length h in omega arith)
 first-grows x (p ∷ ps) h = refl
 
--- its length is the place of the first byte b, as the kit's search has it
-pub first-index : (b : ℕ) (l : List ℕ) → index_of b l ≡ length (part 0 (parts b l))
-unfolding index_of index_after
-first-index b [] = refl
-first-index b (x ∷ xs) = go (eqb x b) (parts b xs) (first_rest b xs) (first-index b xs)
+-- its length is the place of the first byte b, as std's search has it
+pub first-index : (b : ℕ) (l : List ℕ) → length (part 0 (parts b l)) ≡ position_or_len (λ x. eqb x b) l
+first-index b l = is_position_or_len (λ s. length (part 0 (parts b s))) (λ x. eqb x b) refl turn l
   where
-    go : (e : Bool) (ps : List (List ℕ)) → ps ≡ part 0 ps ∷ drop 1 ps → index_of b xs ≡ length (part 0 ps)
-        → index_after e (index_of b xs) ≡ length (part 0 (cond e ([] ∷ ps) (on_first x ps)))
-    go true ps h k = refl
-    go false ps h k = ap suc k ∙ sym (ap (λ (qs : List (List ℕ)). length (part 0 qs)) (first-grows x ps h))
+    turn : (x : ℕ) (xs : List ℕ) → length (part 0 (parts b (x ∷ xs))) ≡ cond (eqb x b) 0 (1 + length (part 0 (parts b xs)))
+    turn x xs = go (eqb x b) (parts b xs) (first_rest b xs)
+      where
+        go : (e : Bool) (ps : List (List ℕ)) → ps ≡ part 0 ps ∷ drop 1 ps
+            → length (part 0 (cond e ([] ∷ ps) (on_first x ps))) ≡ cond e 0 (1 + length (part 0 ps))
+        go true ps h = refl
+        go false ps h = ap (λ (qs : List (List ℕ)). length (part 0 qs)) (first-grows x ps h) ∙ omega arith
+
+-- .. where it finds one; else the text is the first part
+pub first-found : (b : ℕ) (l : List ℕ) {i : ℕ} → Some i ≡ position (λ x. eqb x b) l → i ≡ length (part 0 (parts b l))
+first-found b l {i} e = go (position_or_len (λ x. eqb x b) l) (ltb (position_or_len (λ x. eqb x b) l) (length l)) (first-index b l) e
+  where
+    go : (n : ℕ) (t : Bool) → length (part 0 (parts b l)) ≡ n → Some i ≡ cond t (Some n) None → i ≡ length (part 0 (parts b l))
+    go n true h f = cc
+    go n false h f = cc
+
+pub none-found : (b : ℕ) (l : List ℕ) → None ≡ position (λ x. eqb x b) l → length l ≡ length (part 0 (parts b l))
+none-found b l e = go (ltb (position_or_len (λ x. eqb x b) l) (length l)) refl e
+  where
+    go : (t : Bool) → ltb (position_or_len (λ x. eqb x b) l) (length l) ≡ t → None ≡ cond t (Some (position_or_len (λ x. eqb x b) l)) None
+        → length l ≡ length (part 0 (parts b l))
+    go true h f = cc
+    go false h f =
+        let n = first-index b l in
+        let m : position_or_len (λ x. eqb x b) l ≤ length l = prefix_len-le-length (λ x. not (eqb x b)) l in
+        let k = ltb-false (position_or_len (λ x. eqb x b) l) (length l) h in
+        omega arith
 
 -- it is the beginning of the text
 pub first_taken : (b : ℕ) (l : List ℕ) → take (length (part 0 (parts b l))) l ≡ part 0 (parts b l)

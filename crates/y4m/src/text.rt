@@ -1,9 +1,14 @@
 // Lines, words and numbers of a stream's text, found in the slice where they lie (specs/Places).
-ghost use Rattle.std.specs.Prelude.{◌≡◌, not, ◌+◌, ◌*◌, ◌-◌, ◌<◌, ◌≤◌, length, drop};
+ghost use Rattle.std.specs.Prelude.{◌≡◌, not, ◌+◌, ◌*◌, ◌-◌, ◌<◌, ◌≤◌, eqb, length, drop, position};
 ghost use Rattle.y4m.specs.Text.{parts, part, words_of, tags_of, values_of, is_full, all, is_digit, is_decimal, value_of};
 ghost use Rattle.y4m.specs.Places.{NextTag, TaggedBy, capped};
 
-use bytes::scan::find;
+// The place of the first byte b.
+fn find(s: &[u8], b: u8) -> Option<usize>
+    ensures { result ≡ position (λ x. eqb x b) s.now }
+{
+    s.iter().position(|x| *x == b)
+}
 
 // The end of the part of s that begins at `from`: the next byte b, or the end of s.
 pub fn end_of(s: &[u8], from: usize, b: u8) -> usize
@@ -11,7 +16,10 @@ pub fn end_of(s: &[u8], from: usize, b: u8) -> usize
     ensures value { result ≡ from + length (part 0 (parts b (drop from s.now))) }
     ensures upper_bound { result ≤ length s.now }
 {
-    find(s, from, s.len(), b)
+    match find(&s[from..], b) {
+        Some(i) => from + i,
+        None => s.len(),
+    }
 }
 
 // The next place, from `from` on, of a tag's letter t: behind a space. The length where there is none.

@@ -58,6 +58,7 @@ fn chroma_edge_if(
 }
 
 // The luma edges of one direction. `edge0` says whether its border is on.
+#[tactic(auto, using(crate::proofs::Rulesets::luma_ways))]
 fn luma_way(
     plane: &mut [u8],
     edge0: bool,
@@ -95,6 +96,7 @@ fn luma_way(
 
 // The chroma edges of one direction in both planes, with the strengths of luma's edges 0 and 2. Where both
 // are on they are filtered at once.
+#[tactic(auto, using(crate::proofs::Rulesets::chroma_ways))]
 fn chroma_way(
     u: &mut [u8],
     v: &mut [u8],
@@ -152,6 +154,7 @@ fn top_way(m: PlaneLevels) -> WayLevels
 }
 
 // All luma edges.
+#[tactic(auto, using(crate::proofs::Rulesets::luma_ways))]
 pub fn luma_plane(
     plane: &mut [u8],
     on: Switches,
@@ -179,6 +182,7 @@ pub fn luma_plane(
 }
 
 // All edges of both chroma planes.
+#[tactic(auto, using(crate::proofs::Rulesets::chroma_ways))]
 pub fn chroma_planes(
     u: &mut [u8],
     v: &mut [u8],
@@ -211,6 +215,7 @@ pub fn chroma_planes(
 }
 
 // All 32 strengths are 0.
+#[tactic(auto, using(laws::proofs::Loop::loops), unfolding(crate::specs::Inner::all_zero))]
 pub fn all_zero(strengths: &[u8], base: usize) -> bool
     requires { base + 32 ≤ length strengths.now }
     ensures { result ≡ all_zero (after base (entries strengths.now)) }

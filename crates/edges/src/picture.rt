@@ -11,7 +11,7 @@ ghost use Rattle.edges.specs.Inner.{Room};
 use crate::macroblock::{all_zero, chroma_planes, luma_plane};
 use crate::settings::plan_at;
 use crate::{EdgesOn, Offsets};
-use lines::tables::all;
+use lines::tables::lent;
 use sizes::{Part, Size};
 
 // A slice that lets all of them be.
@@ -25,7 +25,7 @@ pub fn every_edge() -> EdgesOn
     }
 }
 
-// The edges of macroblock (x, row). The tables are made here, so that a macroblock that is left needs none.
+// The edges of macroblock (x, row).
 pub fn filter_edges(
     luma: &mut [u8],
     u: &mut [u8],
@@ -43,9 +43,9 @@ pub fn filter_edges(
     requires { (bad_parity part ≡ false) × (x < w) × Room (frame_of_part part (row * w + w)) (row * w + w) (length luma.old) (length u.old) (length v.old) (length qps.now) (length t8s.now) (length strengths.now) }
     ensures { planes luma.new u.new v.new ≡ laid_mb (held_as w (entries strengths.now) qps.now t8s.now o on) (layout_of part) x row (planes luma.old u.old v.old) }
 {
-    let t = all();
+    let t = lent();
     let base = 32 * (row * w + x);
-    let plan = plan_at(&t, part, w, x, row, qps, t8s, o, on);
+    let plan = plan_at(t, part, w, x, row, qps, t8s, o, on);
     let switches = plan.on;
     let at = plan.luma;
     let chroma_at = plan.chroma;
@@ -53,8 +53,8 @@ pub fn filter_edges(
     let by_luma = levels.luma;
     let by_u = levels.u;
     let by_v = levels.v;
-    luma_plane(luma, switches, at, &t, strengths, base, by_luma);
-    chroma_planes(u, v, switches, chroma_at, &t, strengths, base, by_u, by_v);
+    luma_plane(luma, switches, at, t, strengths, base, by_luma);
+    chroma_planes(u, v, switches, chroma_at, t, strengths, base, by_u, by_v);
 }
 
 // Macroblock (x, row). Where all its strengths are 0 nothing is to do. A visit asks that itself, before it
@@ -83,6 +83,7 @@ pub fn macroblock(
 }
 
 // Row `row` from left to right.
+#[tactic(auto, using(laws::proofs::Loop::loops), unfolding(crate::specs::Laid::laid_row))]
 fn one_row(
     luma: &mut [u8],
     u: &mut [u8],
@@ -105,6 +106,7 @@ fn one_row(
 }
 
 // Rows a to b of a picture, of which b is not one.
+#[tactic(auto, using(crate::proofs::Rulesets::rows_of_part), unfolding(crate::specs::Laid::laid_rows))]
 pub fn rows(
     luma: &mut [u8],
     u: &mut [u8],

@@ -16,7 +16,7 @@ use sizes::Part;
 use sizes::entries::flag_at;
 
 // Which edges are filtered; with the 8x8 transform no luma edges 1 and 3.
-#[derive(Drop)]
+#[derive(Clone, Copy)]
 pub struct Switches {
     pub left: bool,
     pub top: bool,
@@ -25,21 +25,21 @@ pub struct Switches {
 }
 
 // Where a macroblock lies in a plane: the place of its first sample, and the samples of a row.
-#[derive(Drop)]
+#[derive(Clone, Copy)]
 pub struct Window {
     pub origin: usize,
     pub stride: usize,
 }
 
 // Where a picture lies in the planes: its line r is line times * r + skip of theirs.
-#[derive(Drop)]
+#[derive(Clone, Copy)]
 pub struct Layout {
     pub times: usize,
     pub skip: usize,
 }
 
 // All that a macroblock is filtered with, but for its strengths.
-#[derive(Drop)]
+#[derive(Clone, Copy)]
 pub struct Plan {
     pub on: Switches,
     pub luma: Window,
@@ -115,6 +115,7 @@ fn switches_at(on: EdgesOn, x: usize, row: usize, t8: bool) -> Switches
 }
 
 // All of it. The macroblock's luma places fit a usize.
+#[tactic(auto, using(crate::proofs::Rulesets::windows))]
 pub fn plan_at(
     t: &[u8; 416],
     part: Part,

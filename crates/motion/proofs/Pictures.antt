@@ -38,10 +38,10 @@ module _ (pictures : List ℤ) where
   held-named (negsuc i) e h = absurd (true≢false e)
 
 -- ---- a table that is not empty is asked, and one that is empty is not
-pub by-table : (pictures : List ℤ) (r : ℤ) → (length pictures ≡ 0 → ⊥) → picture_in pictures r ≡ named_by pictures r
+pub by_entry : (pictures : List ℤ) (r : ℤ) → (length pictures ≡ 0 → ⊥) → picture_in pictures r ≡ named_by pictures r
 unfolding named_by
-by-table [] r h = absurd (h refl)
-by-table (p ∷ pictures) r h = refl
+by_entry [] r h = absurd (h refl)
+by_entry (p ∷ pictures) r h = refl
 
 pub by_number : (pictures : List ℤ) (r : ℤ) → length pictures ≡ 0 → r ≡ named_by pictures r
 unfolding named_by

@@ -1,5 +1,5 @@
 -- Wrong rules, each shown to differ from the right one at a small input. Assumes nothing.
-use Rattle.std.proofs.Common.{◌≡◌, ℕ, suc, Bool, true, false, not, ◌||◌, eqb, List, [], ◌∷◌, get_or, ℤ, pos, negsuc, ◌-ℤ◌, neg_ℤ, ap, true≢false, w16, to_z, of_z}
+use Rattle.std.proofs.Common.{◌≡◌, ℕ, suc, Bool, false, not, ◌||◌, eqb, List, [], ◌∷◌, get_or, ℤ, pos, negsuc, ◌-ℤ◌, neg_ℤ, ap, true≢false, w16, to_z, of_z}
 use mathlib.Core.Bool.{false≢true}
 use lib.Signed.{lt_z}
 use Rattle.motion.specs.Cases.{moving, no_motion, inter_block, straight, crossed, twice}

@@ -8,7 +8,7 @@ ghost use Rattle.motion.specs.Motion.{motion0, motion1, is_used, if_used, mate, 
 use crate::vectors::far;
 
 // A 4x4 block: inter or not, and of each list a reference, below 0 for none, and a vector.
-#[derive(Drop)]
+#[derive(Clone, Copy)]
 pub struct Blk {
     pub inter: bool,
     pub ref0: i32,
@@ -20,7 +20,7 @@ pub struct Blk {
 }
 
 // A reference and its vector.
-#[derive(Drop)]
+#[derive(Clone, Copy)]
 pub struct Motion {
     pub reference: i32,
     pub x: i16,
@@ -88,6 +88,7 @@ pub fn bs1_tile(vertical: u8, p: Blk, q: Blk) -> bool
 }
 
 // The strength between two inter blocks, of which `coded` says whether one has coefficients: 2, 1 or 0.
+#[tactic(auto, unfolding(crate::specs::Motion::inter_strength))]
 pub fn bs_inter(vertical: u8, coded: bool, p: Blk, q: Blk) -> u8
     ensures { result ≡ inter_strength vertical coded p q }
 {
@@ -134,6 +135,7 @@ fn equal_motion(a: Motion, b: Motion) -> bool
 }
 
 // The same motion in both lists, unused vectors included.
+#[tactic(auto, unfolding(crate::specs::Motion::same_motion))]
 pub fn same_motion(p: Blk, q: Blk) -> bool
     ensures { result ≡ same_motion p q }
 {

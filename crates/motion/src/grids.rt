@@ -62,6 +62,7 @@ fn picture_in(pictures: &[i32], r: i32) -> i32
 }
 
 // What a reference names: where there is no table, its own number.
+#[tactic(auto, using(crate::proofs::Pictures::by_number, crate::proofs::Pictures::by_entry))]
 fn named_by(pictures: &[i32], r: i32) -> i32
     ensures { result ≡ named_by pictures.now r }
 {
@@ -121,6 +122,7 @@ fn block_of(inter: bool, m: Motion, n: Motion) -> Blk
 }
 
 // Block i of the grids.
+#[tactic(auto, unfolding(crate::specs::Grids::block_read))]
 pub fn load<'a>(
     inter: &[u8],
     ref0: &[i8],

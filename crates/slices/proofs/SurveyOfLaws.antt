@@ -1,5 +1,5 @@
--- What the walk of `survey_of` asks for: the invariant of its loop, and that it begins, goes on and ends.
--- Assumes nothing.
+-- A table that is read through: none of its records, one more, all; and what the loop of `survey_of` keeps, from
+-- its beginning, over a turn, to its end. Assumes nothing.
 use mathlib.Core.Path.{◌≡◌, refl, ap, ◌∙◌}
 use mathlib.Core.Bool.{false}
 use mathlib.Core.List.{List}
@@ -13,17 +13,17 @@ use Rattle.slices.specs.declared.Survey.{Survey}
 use Rattle.slices.specs.Inner.{surveyed, seen, survey_up, survey_of}
 use Rattle.slices.specs.Table.{record_of, bad_pair, bad_mode, some_bad_pair, some_bad_mode}
 
-none_yet : (t : List SliceRecord) → surveyed (length t) false false ≡ survey_up t 0
+pub none_yet : (t : List SliceRecord) → surveyed (length t) false false ≡ survey_up t 0
 unfolding survey_up
 none_yet t = λ i. surveyed (length t) (some-none (λ k. bad_pair (record_of t k)) i) (some-none (λ k. bad_mode (record_of t k)) i)
 
-one_more : (t : List SliceRecord) (n : ℕ) → seen (survey_up t n) (record_of t n) ≡ survey_up t (n + 1)
+pub one_more : (t : List SliceRecord) (n : ℕ) → seen (survey_up t n) (record_of t n) ≡ survey_up t (n + 1)
 unfolding survey_up
 one_more t n = λ i. surveyed (length t) (some_more n (λ k. bad_pair (record_of t k)) refl refl i) (some_more n (λ k. bad_mode (record_of t k)) refl refl i)
 
-all_of : (t : List SliceRecord) → survey_up t (length t) ≡ survey_of t
+pub whole_survey : (t : List SliceRecord) → survey_up t (length t) ≡ survey_of t
 unfolding survey_up some_bad_pair some_bad_mode
-all_of t = refl
+whole_survey t = refl
 
 module _ (table : List SliceRecord) (s : Survey) (s-is : s ≡ surveyed (length table) false false) where
   pub record survey-of-Inv (s1 : Survey) (i1 : ℕ) : Type 0 where
@@ -39,4 +39,4 @@ module _ (table : List SliceRecord) (s : Survey) (s-is : s ≡ surveyed (length 
       record { high = omega (arith, less); so_far = s2-is ∙ (λ i. seen (inv.so_far i) (r-is i)) ∙ one_more table i1 }
 
   pub survey-of-ends : (s1 : Survey) (i1 : ℕ) → length table ≤ i1 → survey-of-Inv s1 i1 → s1 ≡ survey_of table
-  survey-of-ends s1 i1 past inv = inv.so_far ∙ ap (survey_up table) (le_antisymm inv.high past) ∙ all_of table
+  survey-of-ends s1 i1 past inv = inv.so_far ∙ ap (survey_up table) (le_antisymm inv.high past) ∙ whole_survey table

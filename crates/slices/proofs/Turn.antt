@@ -2,7 +2,7 @@
 use mathlib.Core.Logic.{◌⊎◌, inl, inr, ⊎_elim}
 use Prim.Native.Nat.{ℕ, zero, suc, ◌-◌, ◌<◌, ◌≤◌, zero-le, suc-le-suc}
 use native.Mathlib.Omega.{arith}
-use mir.Syntax.{Body, skip, seq, assign, block, loop, cond, switch, exit, return, call}
+use mir.Syntax.{Body, skip, seq, assign, block, loop, cond, switch, exit, return, unreachable, call, call_v, lend_static}
 
 pub lt-or-le : (a b : ℕ) → (a < b) ⊎ (b ≤ a)
 lt-or-le a zero = inr zero-le
@@ -24,3 +24,6 @@ rest (switch c arms) = switch c arms
 rest (exit k) = exit k
 rest return = return
 rest (call f xs d) = call f xs d
+rest unreachable = unreachable
+rest (call_v f s xs d) = call_v f s xs d
+rest (lend_static p t k) = lend_static p t k

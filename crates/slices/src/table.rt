@@ -1,5 +1,5 @@
-// A table of slice records, lent as a slice of structs. The two functions that hold it are proved by walks;
-// all others take a record, or what a table comes to, by value.
+// A table of slice records, lent as a slice of structs. Two functions hold it; all others take a record, or
+// what a table comes to, by value.
 ghost use Rattle.std.specs.Prelude.{◌≡◌, false};
 ghost use Rattle.slices.specs.Inner.{surveyed, seen, survey_of};
 ghost use Rattle.slices.specs.Table.{record_of};
@@ -46,6 +46,7 @@ fn see_record(s: Survey, r: SliceRecord) -> Survey
 }
 
 // The table read through once.
+#[tactic(auto, using(crate::proofs::SurveyOfLaws::none_yet, crate::proofs::SurveyOfLaws::one_more))]
 pub fn survey_of(table: &[SliceRecord]) -> Survey
     ensures { result ≡ survey_of table.now }
 {

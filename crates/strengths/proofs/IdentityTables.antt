@@ -17,7 +17,7 @@ use Rattle.laws.proofs.Refusal.{passes}
 use Rattle.laws.proofs.Some.{some_same, some-idle}
 use Rattle.motion.specs.Grids.{Grids, ref_at, vector_at, block_of, block_read, blk_at}
 use Rattle.motion.specs.Pictures.{none, named_by}
-use Rattle.motion.proofs.Pictures.{none_named, by-table}
+use Rattle.motion.proofs.Pictures.{none_named, by_entry}
 use Rattle.sizes.specs.declared.Size.{Size}
 use Rattle.strengths.specs.Blocks.{some_read}
 use Rattle.strengths.specs.Calls.{derive_checks}
@@ -42,7 +42,7 @@ itself-good t o =
 itself-named : (t : List ℤ) → Itself t → (r : ℤ) → lt_z r (pos (length t)) ≡ true → lt_z r none ≡ false → r ≡ named_by t r
 itself-named t o (pos i) h k =
     let l = ltb-true i (length t) h in
-    sym (o.each i l) ∙ by-table t (pos i) (λ e. omega arith)
+    sym (o.each i l) ∙ by_entry t (pos i) (λ e. omega arith)
 itself-named t o (negsuc zero) h k = sym (none_named t)
 itself-named t o (negsuc (suc i)) h k = absurd (true≢false (sym (lt-ltb 0 (suc i) (omega arith)) ∙ k))
 

@@ -35,8 +35,8 @@ module _ (size : Size) (field : Bool) (y : ℕ) {t8s t8s' : List ℕ} {g g' : Gr
   abbrev left_by : List ℕ → Grids → Bool → ℕ → List ℕ → List ℕ
   left_by fs h untrue x t = cond (eqb (answer_of size x y fs h untrue (length t)) 0) (written (y * size.w + x) (strength_at (mode_of field) h size.w (flag_at fs) x y) t) t
 
-  outcome : (untrue : Bool) (x : ℕ) (t : List ℕ) → DeriveOutcome size field x y t8s g untrue t (answer_of size x y t8s g untrue (length t)) (left_by t8s g untrue x t)
-  outcome untrue x t = record { says = refl; leaves = refl }
+  outcome : (said : Bool) (x : ℕ) (t : List ℕ) → DeriveOutcome size field x y t8s g said t (answer_of size x y t8s g said (length t)) (left_by t8s g said x t)
+  outcome said x t = record { says = refl; leaves = refl }
 
   -- ---- whatever is known of a macroblock, both answer the same
   refusals-same : (x : ℕ) → x < size.w → (t : List ℕ) → refusal (derive_checks size x y t8s g (length t)) ≡ refusal (derive_checks size x y t8s' g' (length t))

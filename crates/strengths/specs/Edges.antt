@@ -1,6 +1,6 @@
 -- Apart: no promise to a caller of the public calls rests on it. How the code goes about the four strengths
 -- of an edge, which are bytes k to k + 3 where k is a multiple of 4: what they depend on is asked once, of
--- byte k. That each is then `strength_by` is the law `Asked-is`.
+-- byte k. That each is then `strength_by` is the law `asked_is`.
 use Rattle.std.specs.Prelude.{ℕ, ◌+◌, ◌-◌, ◌*◌, Bool, cond, ◌&&◌, ◌||◌, List, [], eqb, ℤ, get_or}
 use Rattle.motion.specs.Grids.{Grids, motion_at, blk_at}
 use Rattle.motion.specs.Inner.{lone_strength}

@@ -89,6 +89,7 @@ fn bad_flags(t8s: &[u8], w: usize, x: usize, y: usize) -> bool
 }
 
 // What is sought is at a block that is read.
+#[tactic(auto, unfolding(crate::specs::Blocks::some_read))]
 pub fn some_read(sought: Sought, bytes: &[u8], refs: &[i8], w: usize, x: usize, y: usize) -> bool
     requires in_grids { InGrids w x y (places_of sought bytes.now refs.now) }
     requires in_grids_2 { InGrids w x y 589824 }
@@ -121,6 +122,7 @@ fn not_picture(p: i32) -> bool
 }
 
 // .. of all.
+#[tactic(auto, using(laws::proofs::Some::tests), unfolding(crate::specs::Checks::bad_table))]
 fn bad_table(pictures: &[i32]) -> bool
     ensures { result ≡ bad_table pictures.now }
 {
@@ -132,6 +134,7 @@ fn bad_table(pictures: &[i32]) -> bool
 }
 
 // Check 11.
+#[tactic(auto, unfolding(crate::specs::Checks::disagree))]
 pub fn disagreeing(inter: &[u8], w: usize, x: usize, y: usize) -> bool
     requires { InGrids w x y (length inter.now) }
     ensures { result ≡ disagree inter.now w x y }

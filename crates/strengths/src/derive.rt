@@ -55,6 +55,7 @@ fn derive_edge<'a>(
 }
 
 // All 32 of an intra macroblock, which depend on where it stands alone.
+#[tactic(auto, using(laws::proofs::Loop::loops))]
 fn derive_intra(mode: Mode, t8: bool, x: usize, y: usize, strengths: &mut [u8], to: usize)
     requires { to + 32 ≤ length strengths.old }
     ensures { strengths.new ≡ filled 32 to (intra_edge mode t8 x y) strengths.old }
@@ -65,6 +66,7 @@ fn derive_intra(mode: Mode, t8: bool, x: usize, y: usize, strengths: &mut [u8], 
 }
 
 // Of another macroblock.
+#[tactic(auto, using(laws::proofs::Loop::loops))]
 fn derive_inter<'a>(
     kind: MbKind,
     mode: Mode,
@@ -114,6 +116,7 @@ fn derive_inter<'a>(
 }
 
 // Of macroblock (x, y), whose kind is true.
+#[tactic(auto, unfolding(crate::specs::Strength::written))]
 pub fn derive<'a>(
     kind: MbKind,
     mode: Mode,

@@ -8,7 +8,7 @@ ghost use Rattle.strengths.specs.Eights.{transforms_of, across_flag, two_by_two,
 use sizes::entries::flag_at;
 
 // The flags of a macroblock and of its left and upper neighbours; false where there is none.
-#[derive(Drop)]
+#[derive(Clone, Copy)]
 pub struct Transforms {
     pub own: bool,
     pub left: bool,
@@ -50,6 +50,7 @@ pub fn across_flag(t: Transforms, k: usize) -> bool
 }
 
 // A count in one of two rows of two, from `at` on.
+#[tactic(auto, unfolding(laws::specs::Some::some))]
 fn two_by_two(nnz: &[u8], stride: usize, at: usize) -> bool
     requires { at + stride + 1 < length nnz.now }
     ensures { result ≡ two_by_two nnz.now stride at }
@@ -61,6 +62,7 @@ fn two_by_two(nnz: &[u8], stride: usize, at: usize) -> bool
 
 // Block i has coefficients: by its own count, or by those of its 8x8 block, whose second row it is in where
 // `odd` is 1.
+#[tactic(auto, unfolding(crate::specs::Eights::coded_by))]
 pub fn coded_by(nnz: &[u8], stride: usize, t8: bool, odd: usize, i: usize) -> bool
     requires { InCounts (length nnz.now) stride t8 odd i }
     ensures { result ≡ coded_by nnz.now stride t8 odd i }

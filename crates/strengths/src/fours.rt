@@ -15,7 +15,7 @@ use motion::grids::{bs_lone, load};
 
 // Where an edge lies: the block after its first segment, the steps from there back to the block across and
 // along to the next segment's, and which edge it is: vertical or not, and how many blocks from the border.
-#[derive(Drop)]
+#[derive(Clone, Copy)]
 pub struct Edge {
     pub q: usize,
     pub back: usize,
@@ -87,6 +87,7 @@ fn coefficients(coded: bool) -> u8
 }
 
 // One value.
+#[tactic(auto, using(laws::proofs::Loop::loops))]
 pub fn four_same(v: u8, strengths: &mut [u8], to: usize)
     requires { to + 4 ≤ length strengths.old }
     ensures { strengths.new ≡ filled 4 to (λ s. v) strengths.old }
@@ -97,6 +98,7 @@ pub fn four_same(v: u8, strengths: &mut [u8], to: usize)
 }
 
 // By coefficients.
+#[tactic(auto, using(laws::proofs::Loop::loops))]
 pub fn four_coded(
     t: Transforms,
     w: usize,
@@ -123,6 +125,7 @@ pub fn four_coded(
 
 // By motion in one list without a table, as most pictures have it: small enough for the compiler to write it
 // out four times.
+#[tactic(auto, using(laws::proofs::Loop::loops))]
 fn four_lone(
     limit: u8,
     t: Transforms,
@@ -154,6 +157,7 @@ fn four_lone(
 }
 
 // By motion in any.
+#[tactic(auto, using(laws::proofs::Loop::loops))]
 fn four_moving<'a>(
     limit: u8,
     t: Transforms,

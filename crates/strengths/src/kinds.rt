@@ -8,7 +8,7 @@ ghost use Rattle.strengths.specs.declared.kinds.Known.TheVariants.{Stated};
 
 // What strengths take of the picture's mode: the most by which near vectors differ vertically, and the
 // strength of an upper edge beside an intra block.
-#[derive(Drop)]
+#[derive(Clone, Copy)]
 pub struct Mode {
     pub limit: u8,
     pub upper: u8,
@@ -25,7 +25,7 @@ pub fn mode_of(field: bool) -> Mode
 }
 
 // What all 16 blocks of a macroblock have in common: docs/RULES.md, "Strengths".
-#[derive(Drop)]
+#[derive(Clone, Copy)]
 pub enum MbKind {
     Intra,
     Skip,
@@ -46,7 +46,7 @@ pub fn is_intra(kind: MbKind) -> bool
 
 // What a caller says of a macroblock: its kind, flags that it sets only where they are true, or a kind that
 // is none of the four and so true of none.
-#[derive(Drop)]
+#[derive(Clone, Copy)]
 pub enum Known {
     Stated(MbKind),
     Flags { flat: bool, uniform: bool },
@@ -55,7 +55,7 @@ pub enum Known {
 
 // What the four strengths of an edge depend on: nothing, so that they are the same; coefficients; or motion
 // too.
-#[derive(Drop)]
+#[derive(Clone, Copy)]
 pub enum Asked {
     Same(u8),
     Coded,
@@ -63,7 +63,7 @@ pub enum Asked {
 }
 
 // One macroblock with its kind.
-#[derive(Drop)]
+#[derive(Clone, Copy)]
 pub struct Request {
     pub x: usize,
     pub y: usize,
@@ -71,7 +71,7 @@ pub struct Request {
 }
 
 // One macroblock with flags that the caller sets only where they are true.
-#[derive(Drop)]
+#[derive(Clone, Copy)]
 pub struct Flagged {
     pub x: usize,
     pub y: usize,

@@ -1,4 +1,7 @@
-// Strengths of a macroblock, or of a row of them, from the 4x4 grids: ITU-T H.264, clause 8.7.2.1, with numbered refusals.
+// Strengths of a macroblock, or of a row of them, from the 4x4 grids: ITU-T H.264, clause 8.7.2.1, with
+// numbered refusals.
+#![tactic(auto)]
+
 pub mod asks;
 pub mod calls;
 pub mod checks;

@@ -10,6 +10,7 @@ use motion::blocks::{Blk, same_motion};
 use motion::grids::load;
 
 // Four of a row, then four rows.
+#[tactic(auto, using(laws::proofs::Some::tests))]
 fn row_same<'a>(
     first: Blk,
     inter: &[u8],
@@ -33,6 +34,7 @@ fn row_same<'a>(
 }
 
 // By what the references name, block by block.
+#[tactic(auto, using(laws::proofs::Some::tests))]
 fn own_same_named<'a>(
     inter: &[u8],
     ref0: &[i8],

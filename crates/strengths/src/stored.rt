@@ -17,6 +17,7 @@ fn four_refs(refs: &[i8], r: i8, at: usize) -> bool
 }
 
 // Four rows of four references are all as the first.
+#[tactic(auto, using(laws::proofs::Some::tests))]
 fn refs_alike(refs: &[i8], at: usize, stride: usize) -> bool
     requires { at + 3 * stride + 3 < length refs.now }
     ensures { result ≡ every 4 (λ j. every 4 (λ k. eq_z (ref_at refs.now (at + j * stride + k)) (ref_at refs.now at))) }
@@ -30,6 +31,7 @@ fn refs_alike(refs: &[i8], at: usize, stride: usize) -> bool
 }
 
 // Four vectors are all (x, y).
+#[tactic(auto, using(laws::proofs::Some::tests))]
 fn row_alike(mvs: &[i16], x: i16, y: i16, at: usize) -> bool
     requires { 2 * (at + 3) + 1 < length mvs.now }
     ensures { result ≡ every 4 (λ k. eq_z (get_or mvs.now (2 * (at + k)) (pos 0)) x && eq_z (get_or mvs.now (2 * (at + k) + 1) (pos 0)) y) }
@@ -42,6 +44,7 @@ fn row_alike(mvs: &[i16], x: i16, y: i16, at: usize) -> bool
 }
 
 // Four rows of four vectors are all as the first.
+#[tactic(auto, using(laws::proofs::Some::tests))]
 fn vectors_alike(mvs: &[i16], at: usize, stride: usize) -> bool
     requires { 2 * (at + 3 * stride + 3) + 1 < length mvs.now }
     ensures { result ≡ every 4 (λ j. every 4 (λ k. eq_z (get_or mvs.now (2 * (at + j * stride + k)) (pos 0)) (get_or mvs.now (2 * at) (pos 0)) && eq_z (get_or mvs.now (2 * (at + j * stride + k) + 1) (pos 0)) (get_or mvs.now (2 * at + 1) (pos 0)))) }

@@ -47,6 +47,7 @@ fn refuse_next<'a>(
 }
 
 // The first refusal.
+#[tactic(auto, using(laws::proofs::Loop::loops), unfolding(crate::specs::Inner::stretch_answer))]
 fn refuse_stretch<'a>(
     size: Size,
     from: usize,
@@ -81,6 +82,7 @@ fn refuse_stretch<'a>(
 }
 
 // All strengths, where there is none.
+#[tactic(auto, using(laws::proofs::Loop::loops), unfolding(crate::specs::Inner::stretch_written))]
 fn write_stretch<'a>(
     size: Size,
     field: bool,

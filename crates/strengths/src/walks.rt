@@ -6,7 +6,7 @@ ghost use Rattle.strengths.specs.Blocks.{beside_block};
 ghost use Rattle.strengths.specs.Inner.{sought_at, places_of};
 
 // What a walk looks for: a byte above a bound, or a reference number below -1.
-#[derive(Drop)]
+#[derive(Clone, Copy)]
 pub enum Sought {
     Above(u8),
     BelowNone,
@@ -24,6 +24,7 @@ fn sought_at(sought: Sought, bytes: &[u8], refs: &[i8], i: usize) -> bool
 }
 
 // It is at one of four places. The second bound is for the sums, which do not know what is sought.
+#[tactic(auto, using(laws::proofs::Some::tests))]
 pub fn four_have(sought: Sought, bytes: &[u8], refs: &[i8], at: usize, step: usize) -> bool
     requires step_bound { at + 3 * step < places_of sought bytes.now refs.now }
     requires step_bound_2 { at + 3 * step < 1000000 }
@@ -37,6 +38,7 @@ pub fn four_have(sought: Sought, bytes: &[u8], refs: &[i8], at: usize, step: usi
 }
 
 // .. of four rows of four.
+#[tactic(auto, using(laws::proofs::Some::tests))]
 pub fn own_have(sought: Sought, bytes: &[u8], refs: &[i8], at: usize, stride: usize) -> bool
     requires stride_bound { at + 3 * stride + 3 < places_of sought bytes.now refs.now }
     requires stride_bound_2 { at + 3 * stride + 3 < 1000000 }
@@ -50,6 +52,7 @@ pub fn own_have(sought: Sought, bytes: &[u8], refs: &[i8], at: usize, stride: us
 }
 
 // Some of four bytes differs from the first.
+#[tactic(auto, using(laws::proofs::Some::tests))]
 pub fn four_differ(s: &[u8], at: usize, step: usize) -> bool
     requires { at + 3 * step < length s.now }
     ensures { result ≡ some 4 (λ k. not (eqb (get_or s.now (at + k * step) 0) (get_or s.now at 0))) }
@@ -63,6 +66,7 @@ pub fn four_differ(s: &[u8], at: usize, step: usize) -> bool
 }
 
 // Some of the 4 by 4 differs from the first: both walks stop there.
+#[tactic(auto, using(laws::proofs::Some::tests))]
 pub fn own_differ(s: &[u8], at: usize, stride: usize) -> bool
     requires { at + 3 * stride + 3 < length s.now }
     ensures { result ≡ some 4 (λ j. some 4 (λ k. not (eqb (get_or s.now (at + j * stride + k) 0) (get_or s.now at 0)))) }

@@ -1,0 +1,16 @@
+-- `luma_edge`: the lines that `batches` filters are the edge's, by the rule of its level. Assumes nothing.
+use mathlib.Core.Path.{◌∙◌}
+use Rattle.lines.specs.Depth.{eight}
+use Rattle.edges.specs.Edge.{luma_edge}
+use Rattle.edges.specs.Macroblock.{after}
+use Rattle.edges.specs.Picture.{entries}
+use Rattle.edges.proofs.FourSegments.{long-segments}
+use Rattle.edges.proofs.RulesByThresholds.{luma-by}
+use Rattle.edges.proofs.edge.luma_edge.Goals as goal
+
+pub returns : goal.returns
+returns c =
+    let a = c.args in
+    rw (c.four_strengths-s.ensures, c.of_edge-by.ensures.is) at c.luma_lines.ensures
+    ∙ long-segments _ _ _ a.at a.along a.step a.plane.now
+    ∙ (λ i. luma_edge (luma-by eight a.l i) (after a.base (entries a.strengths.now)) a.at a.along a.step a.plane.now)

@@ -11,7 +11,7 @@ use Rattle.visits.specs.Visit.{State, run, answers}
 use Rattle.visits.proofs.Marks.{zeros-are-fresh}
 use Rattle.visits.proofs.Outcome.{outcome-is-visit}
 use Rattle.interlaced.specs.Both.{Arrival, OfField, Both, both, stored_for, unvisited_both, both_visit, FieldAnyOrder}
-use Rattle.interlaced.specs.Contracts.{BothCalls, no_call, one-call}
+use Rattle.interlaced.specs.BothCalls.{BothCalls, no_call, one-call}
 use Rattle.interlaced.specs.Promise.{arrivals, uneven_arrivals, FieldsOutcome}
 use Rattle.interlaced.proofs.FieldsDemand3.{fields-demand-3}
 

@@ -24,7 +24,7 @@ use Rattle.finality.proofs.LateSettled.{late-settled, written-settled}
 use Rattle.finality.proofs.Settled.{final-settled}
 use Rattle.interlaced.specs.Alone.{only}
 use Rattle.interlaced.specs.Both.{Arrival, OfField, Both, marks_for, unvisited_both, lent_for, both_visit, both_after}
-use Rattle.interlaced.specs.Contracts.{BothCalls}
+use Rattle.interlaced.specs.BothCalls.{BothCalls}
 use Rattle.interlaced.specs.LateField.{FieldCallsWith}
 use Rattle.interlaced.proofs.Apart.{all_valid, own-run}
 use Rattle.interlaced.proofs.ByContracts.{both-calls-run}

@@ -1,6 +1,6 @@
 pub mod Alone
 pub mod Both
-pub mod Contracts
+pub mod BothCalls
 pub mod Promise
 pub mod Inner
 pub mod LateField

@@ -68,6 +68,7 @@ pub fn refuse_grids(
 
 // Checks 7, 8, 9: an entry from a to b - 1 is above `top`. All are looked at, which costs less than leaving
 // early.
+#[tactic(auto, using(crate::proofs::SomeBad::some_bads))]
 pub fn any_over(s: &[u8], a: usize, b: usize, top: u8) -> bool
     requires { (a ≤ b) × (b ≤ length s.now) }
     ensures { result ≡ some_bad (ltb top) a b s.now }

@@ -1,4 +1,4 @@
--- What the walk of `filter_rows_slices` asks for: the invariant of its loop, and that it begins, goes on and
+-- What the proof of `filter_rows_slices` asks for: the invariant of its loop, and that it begins, goes on and
 -- ends. Assumes nothing.
 use mathlib.Core.Path.{◌≡◌, refl, sym, ap, subst, ◌∙◌}
 use mathlib.Core.Bool.{Bool, cond}

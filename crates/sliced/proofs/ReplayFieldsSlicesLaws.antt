@@ -1,4 +1,4 @@
--- What the walk of `replay_fields_slices` asks for: the invariant of its loop, and that it begins, goes on
+-- What the proof of `replay_fields_slices` asks for: the invariant of its loop, and that it begins, goes on
 -- and ends. Names that end in 2 are of the bottom field. Assumes nothing.
 use mathlib.Core.Path.{◌≡◌, sym, ap, ◌∙◌}
 use mathlib.Core.Bool.{Bool, false, cond, not, ◌||◌}
@@ -43,10 +43,10 @@ module _ (size : Size) (ps xs ys luma u v : List ℕ) (c : ChromaOffsets) (table
 
   abbrev pub replay-fields-slices-Inv : ℕ → List ℕ → List ℕ → List ℕ → List ℕ → List ℕ → List ℕ → Type 0
   replay-fields-slices-Inv k luma1 u1 v1 ms1 ms21 answers1 =
-      Replaying (both_visit size top bottom) (arrivals ps xs ys) start answers test (length xs) e e-is k (both (planes luma1 u1 v1) ms1 ms21) answers1
+      Replaying (both_visit size top bottom) (arrivals ps xs ys) start answers test (length xs) e k (both (planes luma1 u1 v1) ms1 ms21) answers1
 
   pub replay-fields-slices-begins : replay-fields-slices-Inv 0 luma u v ms ms2 answers
-  replay-fields-slices-begins = replay-begins (both_visit size top bottom) (arrivals ps xs ys) start answers test (length xs) e e-is
+  replay-fields-slices-begins = replay-begins (both_visit size top bottom) (arrivals ps xs ys) start answers test (length xs) e
 
   -- the lists are of one length
   even : test ≡ false → (length ps ≡ length xs) × (length ys ≡ length xs) × (length answers ≡ length xs)

@@ -1,4 +1,4 @@
--- What the walk of `replay_slices` asks for: the invariant of its loop, and that it begins, goes on and ends.
+-- What the proof of `replay_slices` asks for: the invariant of its loop, and that it begins, goes on and ends.
 -- Assumes nothing.
 use mathlib.Core.Path.{◌≡◌, sym, ap, ◌∙◌}
 use mathlib.Core.Bool.{Bool, false, cond, not}
@@ -39,10 +39,10 @@ module _ (size : Size) (part : Part) (c : ChromaOffsets) (table : List SliceReco
   e-is = to_is ∙ ap (λ (t : Task). t.to) task-is
 
   abbrev pub replay-slices-Inv : ℕ → List ℕ → List ℕ → List ℕ → List ℕ → List ℕ → Type 0
-  replay-slices-Inv k luma1 u1 v1 marks1 answers1 = Replaying (visit_in part d) (requests xs ys) start answers test (length xs) e e-is k (planes luma1 u1 v1, marks1) answers1
+  replay-slices-Inv k luma1 u1 v1 marks1 answers1 = Replaying (visit_in part d) (requests xs ys) start answers test (length xs) e k (planes luma1 u1 v1, marks1) answers1
 
   pub replay-slices-begins : replay-slices-Inv 0 luma u v marks answers
-  replay-slices-begins = replay-begins (visit_in part d) (requests xs ys) start answers test (length xs) e e-is
+  replay-slices-begins = replay-begins (visit_in part d) (requests xs ys) start answers test (length xs) e
 
   -- the lists are of one length
   even : test ≡ false → (length ys ≡ length xs) × (length answers ≡ length xs)

@@ -1,4 +1,4 @@
--- What the walk of `visit_slices` asks for: the table that is lent is one of those for which `visit_by`
+-- What the proof of `visit_slices` asks for: the table that is lent is one of those for which `visit_by`
 -- promises. Assumes nothing.
 use mathlib.Core.Path.{◌≡◌, ap, ◌∙◌}
 use mathlib.Core.List.{List}

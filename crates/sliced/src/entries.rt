@@ -60,6 +60,7 @@ pub fn bad_range(s: Survey, c: ChromaOffsets) -> bool
 }
 
 // Check 20, of the numbers from a to b - 1, for a table of `count` records.
+#[tactic(auto, using(pictures::proofs::SomeBad::some_bads))]
 pub fn any_past(numbers: &[u16], a: usize, b: usize, count: usize) -> bool
     requires { (a ≤ b) × (b ≤ length numbers.now) }
     ensures { result ≡ some_bad (leb count) a b numbers.now }
@@ -83,6 +84,7 @@ fn past_before(there: bool, numbers: &[u16], i: usize, d: usize, count: usize) -
 }
 
 // .. of macroblock (x, y), its left and its upper neighbour.
+#[tactic(auto, unfolding(visits::specs::Checks::bad_around))]
 pub fn past_near(numbers: &[u16], w: usize, x: usize, y: usize, count: usize) -> bool
     requires { InPicture w x y (length numbers.now) }
     ensures { result ≡ bad_around (leb count) numbers.now w x y }

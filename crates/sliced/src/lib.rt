@@ -1,6 +1,8 @@
 // The filtering calls that are lent a table of slices and the number of each macroblock's slice: rows, whole
 // pictures, visits and visits replayed, of frames and fields. `calls` has them: functions that hold the table
-// and do nothing but call, proved by walks. All else takes by value what was read from it.
+// and do nothing but call. All else takes by value what was read from it.
+#![tactic(auto)]
+
 pub mod arriving;
 pub mod calls;
 pub mod entries;

@@ -4,7 +4,7 @@ ghost use Rattle.sliced.specs.Inner.{rows_task, turns_task};
 
 // Answer, having gone through `from` to `to`, of which `to` is not one: macroblocks of rows, or requests of a
 // replay.
-#[derive(Drop)]
+#[derive(Clone, Copy)]
 pub struct Task {
     pub answer: u32,
     pub from: usize,

@@ -11,6 +11,7 @@ use sizes::entries::{over_before, over_near};
 use sizes::{Part, Size};
 
 // Check 7, of the marks.
+#[tactic(auto, unfolding(crate::specs::Checks::bad_marks))]
 fn bad_marks(marks: &[u8], w: usize, x: usize, y: usize) -> bool
     requires { InPicture w x y (length marks.now) }
     ensures { result ≡ bad_marks marks.now w x y }
@@ -21,6 +22,7 @@ fn bad_marks(marks: &[u8], w: usize, x: usize, y: usize) -> bool
 }
 
 // Check 8.
+#[tactic(auto, unfolding(crate::specs::Checks::bad_around))]
 fn bad_qps(qps: &[u8], w: usize, x: usize, y: usize) -> bool
     requires { InPicture w x y (length qps.now) }
     ensures { result ≡ bad_around bad_qp qps.now w x y }

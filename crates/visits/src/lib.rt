@@ -1,5 +1,7 @@
 // Visits: macroblocks filtered in the order in which they arrive, each once its left, upper and upper right
 // neighbours have been.
+#![tactic(auto)]
+
 pub mod checks;
 pub mod finishing;
 pub mod readiness;

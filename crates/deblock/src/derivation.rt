@@ -8,8 +8,7 @@ use strengths::calls::{derive_known, derive_mb, derive_mb_bs, derive_row};
 use strengths::kinds::{Flagged, known_of_number};
 
 // Strengths of a macroblock of which nothing is known.
-#[unsafe(no_mangle)]
-pub extern "C" fn deblock_strengths<'a>(
+pub fn deblock_strengths<'a>(
     w: usize,
     h: usize,
     field: u8,
@@ -48,8 +47,7 @@ pub extern "C" fn deblock_strengths<'a>(
 }
 
 // Strengths with flags that the caller sets where they are true.
-#[unsafe(no_mangle)]
-pub extern "C" fn deblock_strengths_flags<'a>(
+pub fn deblock_strengths_flags<'a>(
     w: usize,
     h: usize,
     field: u8,
@@ -95,8 +93,7 @@ pub extern "C" fn deblock_strengths_flags<'a>(
 }
 
 // Strengths of a macroblock whose kind is known. A number above 3 is a kind that is true of no grids.
-#[unsafe(no_mangle)]
-pub extern "C" fn deblock_strengths_kind<'a>(
+pub fn deblock_strengths_kind<'a>(
     w: usize,
     h: usize,
     field: u8,
@@ -137,8 +134,7 @@ pub extern "C" fn deblock_strengths_kind<'a>(
 }
 
 // Strengths of a row of macroblocks. Of their kinds, those of all macroblocks of the picture are lent, or none.
-#[unsafe(no_mangle)]
-pub extern "C" fn deblock_strengths_row<'a>(
+pub fn deblock_strengths_row<'a>(
     w: usize,
     h: usize,
     field: u8,

@@ -20,8 +20,7 @@ pub fn part_of_number(k: u8) -> Part
 }
 
 // A whole picture.
-#[unsafe(no_mangle)]
-pub extern "C" fn deblock_whole(
+pub fn deblock_whole(
     w: usize,
     h: usize,
     part: u8,
@@ -50,8 +49,7 @@ pub extern "C" fn deblock_whole(
 }
 
 // Rows first to last, the last not among them.
-#[unsafe(no_mangle)]
-pub extern "C" fn deblock_rows(
+pub fn deblock_rows(
     w: usize,
     h: usize,
     part: u8,

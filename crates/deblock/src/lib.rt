@@ -1,5 +1,7 @@
-// The C interface: each function hands on to one public call and answers what that answers. None asks
-// anything of its caller. include/deblock.h declares them.
+// The C interface as a library: each function hands on to one public call and answers what that answers. None
+// asks anything of its caller. The crate `deblock_c` has them for C, and include/deblock.h declares them.
+#![tactic(auto)]
+
 pub mod derivation;
 pub mod filtering;
 pub mod showing;

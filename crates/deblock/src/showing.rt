@@ -8,8 +8,7 @@ use finality::{Finality, Finals};
 use sizes::Size;
 
 // Is one macroblock final?
-#[unsafe(no_mangle)]
-pub extern "C" fn deblock_is_final(w: usize, h: usize, x: usize, y: usize, marks: &[u8]) -> Finality
+pub fn deblock_is_final(w: usize, h: usize, x: usize, y: usize, marks: &[u8]) -> Finality
     ensures { result ≡ finality_of (size_of w h) marks.now x y }
 {
     let size = Size { w, h };
@@ -17,8 +16,7 @@ pub extern "C" fn deblock_is_final(w: usize, h: usize, x: usize, y: usize, marks
 }
 
 // What a visit has made final.
-#[unsafe(no_mangle)]
-pub extern "C" fn deblock_made_final(w: usize, h: usize, x: usize, y: usize, marks: &[u8]) -> Finals
+pub fn deblock_made_final(w: usize, h: usize, x: usize, y: usize, marks: &[u8]) -> Finals
     ensures { result ≡ finals_of (size_of w h) marks.now x y }
 {
     let size = Size { w, h };

@@ -24,8 +24,7 @@ fn chroma_of_numbers(u: i32, v: i32) -> ChromaOffsets
 }
 
 // A whole picture.
-#[unsafe(no_mangle)]
-pub extern "C" fn deblock_whole_slices(
+pub fn deblock_whole_slices(
     w: usize,
     h: usize,
     part: u8,
@@ -51,8 +50,7 @@ pub extern "C" fn deblock_whole_slices(
 }
 
 // Rows first to last, the last not among them.
-#[unsafe(no_mangle)]
-pub extern "C" fn deblock_rows_slices(
+pub fn deblock_rows_slices(
     w: usize,
     h: usize,
     part: u8,
@@ -80,8 +78,7 @@ pub extern "C" fn deblock_rows_slices(
 }
 
 // One macroblock, marked once filtered.
-#[unsafe(no_mangle)]
-pub extern "C" fn deblock_visit_slices(
+pub fn deblock_visit_slices(
     w: usize,
     h: usize,
     part: u8,

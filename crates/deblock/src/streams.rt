@@ -8,29 +8,21 @@ use y4m::reader::{look, read};
 use y4m::writer::{length, write};
 
 // The size of a stream's first picture.
-#[unsafe(no_mangle)]
-pub extern "C" fn deblock_y4m_look(stream: &[u8]) -> Found
+pub fn deblock_y4m_look(stream: &[u8]) -> Found
     ensures { LookOutcome stream.now result }
 {
     look(stream)
 }
 
 // Its planes.
-#[unsafe(no_mangle)]
-pub extern "C" fn deblock_y4m_read(
-    stream: &[u8],
-    luma: &mut [u8],
-    u: &mut [u8],
-    v: &mut [u8],
-) -> Found
+pub fn deblock_y4m_read(stream: &[u8], luma: &mut [u8], u: &mut [u8], v: &mut [u8]) -> Found
     ensures { ReadOutcome stream.now luma.old u.old v.old result luma.new u.new v.new }
 {
     read(stream, luma, u, v)
 }
 
 // How long a stream of one picture is.
-#[unsafe(no_mangle)]
-pub extern "C" fn deblock_y4m_length(w: usize, h: usize) -> usize
+pub fn deblock_y4m_length(w: usize, h: usize) -> usize
     ensures { LengthOutcome (size_of w h) result }
 {
     let size = Size { w, h };
@@ -38,8 +30,7 @@ pub extern "C" fn deblock_y4m_length(w: usize, h: usize) -> usize
 }
 
 // Writes it.
-#[unsafe(no_mangle)]
-pub extern "C" fn deblock_y4m_write(
+pub fn deblock_y4m_write(
     w: usize,
     h: usize,
     luma: &[u8],

@@ -10,8 +10,7 @@ use sizes::Size;
 use visits::visits::visit;
 
 // One macroblock, marked once filtered.
-#[unsafe(no_mangle)]
-pub extern "C" fn deblock_visit(
+pub fn deblock_visit(
     w: usize,
     h: usize,
     part: u8,

@@ -1,33 +1,25 @@
 // Runs the strength calls and the filtering calls on a picture of 2 by 1 macroblocks and prints each answer
 // with what the call left. What it must print (stdout) was made by the Rust original:
 // host/oracle/examples/answers.rs makes the same calls of it.
+#![tactic(auto)]
+
 use edges::Offsets;
-use libc::STDOUT_FILENO;
 use pictures::rows::filter_whole;
 use sizes::{Part, Size};
+use std::io;
 use strengths::calls::{derive_mb, derive_mb_bs, derive_mb_kind};
 use strengths::kinds::{Flagged, MbKind, Request};
 
-fn text(s: &[u8]) {
-    io::write_all(STDOUT_FILENO, s);
-}
-
-fn number(n: u8) {
-    text(b" ");
-    io::print_decimal(STDOUT_FILENO, n as u64);
-}
-
-fn numbers(s: &[u8]) {
-    for i in 0..s.len() {
-        number(s[i]);
+fn numbers(rt: &impl Print, s: &[u8]) -> io::Result<()> {
+    for n in s {
+        print!(rt; " {n}")?;
     }
-    text(b"\n");
+    println!(rt;)
 }
 
-fn answer(n: u32, s: &[u8]) {
-    io::print_decimal(STDOUT_FILENO, n as u64);
-    text(b":");
-    numbers(s);
+fn answer(rt: &impl Print, n: u32, s: &[u8]) -> io::Result<()> {
+    print!(rt; "{n}:")?;
+    numbers(rt, s)
 }
 
 // Columns that rise by 5 every four.
@@ -40,7 +32,7 @@ fn rise(s: &mut [u8]) {
 // Blocks that are all intra, or all inter with one count and one vector apart, both in the right macroblock.
 // Where that one is 8x8 the original, which looks at each block's own count, is lent it in all four blocks of
 // the 8x8 block.
-fn plain(inter: u8, x: usize, t8: u8, s: &mut [u8]) {
+fn plain(rt: &impl Print, inter: u8, x: usize, t8: u8, s: &mut [u8]) -> io::Result<()> {
     let mut nnz = [0; 32];
     nnz[13] = 3;
     let mut mv0 = [0; 64];
@@ -61,12 +53,12 @@ fn plain(inter: u8, x: usize, t8: u8, s: &mut [u8]) {
         &[],
         s,
     );
-    text(b"plain ");
-    answer(n, s);
+    print!(rt; "plain ")?;
+    answer(rt, n, s)
 }
 
 // Both lists, the pictures of the right macroblock's first block exchanged.
-fn flagged(x: usize, flat: bool, uniform: bool, s: &mut [u8]) {
+fn flagged(rt: &impl Print, x: usize, flat: bool, uniform: bool, s: &mut [u8]) -> io::Result<()> {
     let mut ref0 = [5; 32];
     let mut ref1 = [7; 32];
     ref0[4] = 7;
@@ -91,13 +83,13 @@ fn flagged(x: usize, flat: bool, uniform: bool, s: &mut [u8]) {
         &[],
         s,
     );
-    text(b"flagged ");
-    answer(n, s);
+    print!(rt; "flagged ")?;
+    answer(rt, n, s)
 }
 
 // Both lists with tables: indices 0 and 2 of list 0 and 1 of list 1 name picture 5, the other ones picture 7,
 // and 3 is past list 0's. In the right macroblock the first block of each row has other references.
-fn listed(x: usize, last: i32, s: &mut [u8]) {
+fn listed(rt: &impl Print, x: usize, last: i32, s: &mut [u8]) -> io::Result<()> {
     let mut ref0 = [0; 32];
     let mut ref1 = [1; 32];
     ref0[4] = 2;
@@ -121,12 +113,12 @@ fn listed(x: usize, last: i32, s: &mut [u8]) {
         &[7, 5],
         s,
     );
-    text(b"listed ");
-    answer(n, s);
+    print!(rt; "listed ")?;
+    answer(rt, n, s)
 }
 
 // The left macroblock is intra, the right one inter with one motion.
-fn by_kind(x: usize, kind: MbKind, s: &mut [u8]) {
+fn by_kind(rt: &impl Print, x: usize, kind: MbKind, s: &mut [u8]) -> io::Result<()> {
     let n = derive_mb_kind(
         Size { w: 2, h: 1 },
         false,
@@ -145,18 +137,18 @@ fn by_kind(x: usize, kind: MbKind, s: &mut [u8]) {
         &[],
         s,
     );
-    text(b"kind ");
-    answer(n, s);
+    print!(rt; "kind ")?;
+    answer(rt, n, s)
 }
 
-fn show(n: u32, luma: &[u8], u: &[u8], v: &[u8]) {
-    answer(n, luma);
-    numbers(u);
-    numbers(v);
+fn show(rt: &impl Print, n: u32, luma: &[u8], u: &[u8], v: &[u8]) -> io::Result<()> {
+    answer(rt, n, luma)?;
+    numbers(rt, u)?;
+    numbers(rt, v)
 }
 
 // The whole picture at the QPs 30 and q, by the strengths s.
-fn frame(q: u8, t8s: &[u8], o: Offsets, s: &[u8]) {
+fn frame(rt: &impl Print, q: u8, t8s: &[u8], o: Offsets, s: &[u8]) -> io::Result<()> {
     let mut luma = [0; 512];
     let mut u = [0; 128];
     let mut v = [90; 128];
@@ -173,27 +165,28 @@ fn frame(q: u8, t8s: &[u8], o: Offsets, s: &[u8]) {
         &[30, q],
         t8s,
     );
-    text(b"frame ");
-    show(n, &luma, &u, &v);
+    print!(rt; "frame ")?;
+    show(rt, n, &luma, &u, &v)
 }
 
-fn main() {
+fn main(rt: HostRuntime) -> io::Result<()> {
     let mut s = [9; 64];
-    plain(1, 0, 0, &mut s);
-    plain(1, 1, 1, &mut s);
-    flagged(0, true, true, &mut s);
-    flagged(1, false, false, &mut s);
-    flagged(1, false, true, &mut s);
-    by_kind(0, MbKind::Intra, &mut s);
-    by_kind(1, MbKind::Skip, &mut s);
-    by_kind(1, MbKind::Intra, &mut s);
-    listed(0, 5, &mut s);
-    listed(1, 5, &mut s);
-    listed(1, 65536, &mut s);
-    plain(0, 0, 0, &mut s);
-    plain(1, 1, 0, &mut s);
-    plain(2, 1, 0, &mut s);
+    plain(&rt, 1, 0, 0, &mut s)?;
+    plain(&rt, 1, 1, 1, &mut s)?;
+    flagged(&rt, 0, true, true, &mut s)?;
+    flagged(&rt, 1, false, false, &mut s)?;
+    flagged(&rt, 1, false, true, &mut s)?;
+    by_kind(&rt, 0, MbKind::Intra, &mut s)?;
+    by_kind(&rt, 1, MbKind::Skip, &mut s)?;
+    by_kind(&rt, 1, MbKind::Intra, &mut s)?;
+    listed(&rt, 0, 5, &mut s)?;
+    listed(&rt, 1, 5, &mut s)?;
+    listed(&rt, 1, 65536, &mut s)?;
+    plain(&rt, 0, 0, 0, &mut s)?;
+    plain(&rt, 1, 1, 0, &mut s)?;
+    plain(&rt, 2, 1, 0, &mut s)?;
     frame(
+        &rt,
         34,
         &[],
         Offsets {
@@ -203,8 +196,9 @@ fn main() {
             chroma_v: 0,
         },
         &s,
-    );
+    )?;
     frame(
+        &rt,
         40,
         &[1, 0],
         Offsets {
@@ -214,8 +208,9 @@ fn main() {
             chroma_v: 2,
         },
         &s,
-    );
+    )?;
     frame(
+        &rt,
         52,
         &[],
         Offsets {
@@ -225,5 +220,5 @@ fn main() {
             chroma_v: 0,
         },
         &s,
-    );
+    )
 }

@@ -1,19 +1,23 @@
 // Replays arrival orders of small pictures, refused visits among them, and prints answers, marks, luma sample
-// 495 ((15, 15) of a picture two wide) and sums of the planes; of an interlaced frame (fields.rt) the marks
-// and the sums of each field. What it must print (stdout) was written by `judge arrivals`: the table of
+// 495 ((15, 15) of a picture two wide) and sums of the planes; of an interlaced frame (field_orders.rt) the
+// marks and the sums of each field. What it must print (stdout) was written by `judge arrivals`: the table of
 // docs/RULES.md, "Answers", answers each visit; a frame's macroblocks are filtered by the Rust original,
 // those of a field, which the original does not have, by the judge's model of the rules.
+#![tactic(auto)]
+
 mod contents;
-mod fields;
+mod field_orders;
 mod print;
 
 use contents::{fill_planes, fill_strengths, offsets_of, qps_of, t8s_of};
-use print::{answered, byte, bytes, sums, text};
+use print::{answered, bytes, sums};
 use sizes::{Part, Size};
+use std::io;
 use visits::visits::replay;
 
 fn told(
-    name: &[u8],
+    rt: &impl Print,
+    name: &str,
     n: u32,
     answers: &[u32],
     marks: &[u8],
@@ -21,18 +25,22 @@ fn told(
     luma: &[u8],
     u: &[u8],
     v: &[u8],
-) {
-    answered(name, n, answers);
-    text(b", marks");
-    bytes(marks);
-    text(b", sample");
-    byte(sample);
-    text(b", sums");
-    sums(luma, u, v, Part::Frame);
-    text(b"\n");
+) -> io::Result<()> {
+    answered(rt, name, n, answers)?;
+    print!(rt; ", marks")?;
+    bytes(rt, marks)?;
+    print!(rt; ", sample {sample}, sums")?;
+    sums(rt, luma, u, v, Part::Frame)?;
+    println!(rt;)
 }
 
-fn run(name: &[u8], picture: u8, xs: &[usize; 8], ys: &[usize; 8]) {
+fn run(
+    rt: &impl Print,
+    name: &str,
+    picture: u8,
+    xs: &[usize; 8],
+    ys: &[usize; 8],
+) -> io::Result<()> {
     let mut luma = [0u8; 1024];
     let mut u = [0u8; 256];
     let mut v = [0u8; 256];
@@ -59,38 +67,42 @@ fn run(name: &[u8], picture: u8, xs: &[usize; 8], ys: &[usize; 8]) {
         &mut marks,
         &mut answers,
     );
-    told(name, n, &answers, &marks, luma[495], &luma, &u, &v);
+    told(rt, name, n, &answers, &marks, luma[495], &luma, &u, &v)
 }
 
-fn orders(picture: u8) {
+fn orders(rt: &impl Print, picture: u8) -> io::Result<()> {
     run(
-        b"raster order, each twice:",
+        rt,
+        "raster order, each twice:",
         picture,
         &[0, 0, 1, 1, 0, 0, 1, 1],
         &[0, 0, 0, 0, 1, 1, 1, 1],
-    );
+    )?;
     run(
-        b"as slices arrived:",
+        rt,
+        "as slices arrived:",
         picture,
         &[0, 0, 0, 1, 2, 0, 1, 1],
         &[1, 0, 1, 0, 0, 1, 1, 1],
-    );
+    )?;
     run(
-        b"the old release's order, then again:",
+        rt,
+        "the old release's order, then again:",
         picture,
         &[0, 0, 1, 1, 0, 0, 0, 1],
         &[0, 1, 0, 1, 2, 1, 0, 1],
-    );
+    )?;
     run(
-        b"upper row only:",
+        rt,
+        "upper row only:",
         picture,
         &[1, 0, 1, 0, 1, 1, 1, 0],
         &[0, 0, 1, 1, 0, 1, 0, 0],
-    );
+    )
 }
 
 // P12's second half: in a picture one wide (0, 1) has no upper right neighbour to wait for.
-fn one_wide() {
+fn one_wide(rt: &impl Print) -> io::Result<()> {
     let mut luma = [0u8; 512];
     let mut u = [0u8; 128];
     let mut v = [0u8; 128];
@@ -114,16 +126,26 @@ fn one_wide() {
         &mut marks,
         &mut answers,
     );
-    told(b"downwards:", n, &answers, &marks, luma[495], &luma, &u, &v);
+    told(
+        rt,
+        "downwards:",
+        n,
+        &answers,
+        &marks,
+        luma[495],
+        &luma,
+        &u,
+        &v,
+    )
 }
 
-fn main() {
-    text(b"flat\n");
-    orders(0);
-    text(b"mixed\n");
-    orders(1);
-    text(b"one wide\n");
-    one_wide();
-    text(b"interlaced\n");
-    fields::orders();
+fn main(rt: HostRuntime) -> io::Result<()> {
+    println!(rt; "flat")?;
+    orders(&rt, 0)?;
+    println!(rt; "mixed")?;
+    orders(&rt, 1)?;
+    println!(rt; "one wide")?;
+    one_wide(&rt)?;
+    println!(rt; "interlaced")?;
+    field_orders::orders(&rt)
 }

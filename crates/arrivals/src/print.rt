@@ -1,44 +1,27 @@
 // What is printed: words, numbers, and sums of the samples of a plane.
 ghost use Rattle.std.specs.Prelude.{◌<◌};
 
-use libc::STDOUT_FILENO;
 use sizes::Part;
+use std::io;
 
-pub fn text(s: &[u8]) {
-    io::write_all(STDOUT_FILENO, s);
-}
-
-fn number(n: u64) {
-    text(b" ");
-    io::print_decimal(STDOUT_FILENO, n);
-}
-
-pub fn byte(n: u8) {
-    number(n as u64);
-}
-
-fn word(n: u32) {
-    number(n as u64);
-}
-
-pub fn bytes(s: &[u8]) {
-    for i in 0..s.len() {
-        byte(s[i]);
+pub fn bytes(rt: &impl Print, s: &[u8]) -> io::Result<()> {
+    for n in s {
+        print!(rt; " {n}")?;
     }
+    Ok(())
 }
 
-fn words(s: &[u32]) {
-    for i in 0..s.len() {
-        word(s[i]);
+fn words(rt: &impl Print, s: &[u32]) -> io::Result<()> {
+    for n in s {
+        print!(rt; " {n}")?;
     }
+    Ok(())
 }
 
 // How a line of output starts: the order's name, what the replay answered, and what each visit did.
-pub fn answered(name: &[u8], n: u32, answers: &[u32]) {
-    text(name);
-    word(n);
-    text(b", answers");
-    words(answers);
+pub fn answered(rt: &impl Print, name: &str, n: u32, answers: &[u32]) -> io::Result<()> {
+    print!(rt; "{name} {n}, answers")?;
+    words(rt, answers)
 }
 
 // Whether a line of the planes is the picture's: in a field those of its parity are.
@@ -73,8 +56,9 @@ fn sum(s: &[u8], width: usize, part: Part) -> u64
 }
 
 // Of planes two macroblocks wide; the sums of a frame are the same for any width.
-pub fn sums(luma: &[u8], u: &[u8], v: &[u8], part: Part) {
-    number(sum(luma, 32, part));
-    number(sum(u, 16, part));
-    number(sum(v, 16, part));
+pub fn sums(rt: &impl Print, luma: &[u8], u: &[u8], v: &[u8], part: Part) -> io::Result<()> {
+    let of_luma = sum(luma, 32, part);
+    let of_u = sum(u, 16, part);
+    let of_v = sum(v, 16, part);
+    print!(rt; " {of_luma} {of_u} {of_v}")
 }

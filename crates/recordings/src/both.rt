@@ -13,7 +13,7 @@ use sizes::{Part, Size};
 use visits::visits::visit;
 
 // Size, number of macroblocks and what each picture is given, and whether there are two.
-#[derive(Drop)]
+#[derive(Clone, Copy)]
 pub struct Shape {
     pub size: Size,
     pub n: usize,

@@ -1,38 +1,46 @@
 // Bytes in and out.
 //
-// What a file holds and what is written lie outside of the program, and the kit's `write_all`,
-// `print_decimal` and `read_full` say nothing of them. So of `text`, `number` and `verdict`, which only
-// write, it is proved that they are safe and end, and nothing more can be said; of `fill`, that the length
-// stays. What is equal is decided elsewhere: by `check::same` of the kit, which answers true exactly where
-// two lists are equal, and by orders.rt.
-ghost use Rattle.std.specs.Prelude.{◌≡◌, ◌+◌, ◌*◌, length, get_or};
+// What a file holds and what is written lie outside of the program, and std's printing and reading say
+// nothing of them. So of `verdict`, which only writes, it is proved that it is safe and ends, and nothing more
+// can be said; of `read_full` and `fill`, that the length stays. What is equal is decided elsewhere: by
+// `check::same` of the kit, which answers true exactly where two lists are equal, and by orders.rt.
+ghost use Rattle.std.specs.Prelude.{◌≡◌, ◌+◌, ◌*◌, ◌≤◌, length, get_or};
 ghost use Rattle.recordings.specs.Bytes.{copied, ones};
 
-use libc::STDOUT_FILENO;
+use std::io;
+use std::io::Read;
 
-pub fn text(s: &[u8]) {
-    io::write_all(STDOUT_FILENO, s);
+pub fn verdict(rt: &impl Print, name: &str, good: bool) -> io::Result<()> {
+    let said = if good { "equal" } else { "DIFFERENT" };
+    print!(rt; ", {name} {said}")
 }
 
-pub fn number(n: usize) {
-    io::print_decimal(STDOUT_FILENO, n as u64);
-}
-
-pub fn verdict(name: &[u8], good: bool) {
-    text(b", ");
-    text(name);
-    if good {
-        text(b" equal");
-        return;
+// Reads to the end of the file or of s, and answers how many bytes that were. A read that fails ends it too.
+pub fn read_full(file: &mut impl Read, s: &mut [u8]) -> usize
+    ensures upper_bound { result ≤ length s.old }
+    ensures len { length s.new ≡ length s.old }
+{
+    let mut at = 0;
+    for _ in 0..u64::MAX {
+        if at >= s.len() {
+            break;
+        }
+        let Ok(n) = file.read(&mut s[at..]) else {
+            break;
+        };
+        if n == 0 {
+            break;
+        }
+        at += n;
     }
-    text(b" DIFFERENT");
+    at
 }
 
 // Reads as many bytes as s has, and answers whether the file had them.
-pub fn fill(fd: i32, s: &mut [u8]) -> bool
+pub fn fill(file: &mut impl Read, s: &mut [u8]) -> bool
     ensures { length s.new ≡ length s.old }
 {
-    io::read_full(fd, s) == s.len()
+    read_full(file, s) == s.len()
 }
 
 pub fn copy(to: &mut [u8], from: &[u8])
@@ -41,9 +49,7 @@ pub fn copy(to: &mut [u8], from: &[u8])
     if to.len() != from.len() {
         return;
     }
-    for i in 0..to.len() {
-        to[i] = from[i];
-    }
+    to.copy_from_slice(from);
 }
 
 pub fn all_ones(s: &[u8]) -> bool

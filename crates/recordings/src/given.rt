@@ -19,7 +19,7 @@ use slices::ChromaOffsets;
 
 // One pair of offsets and the chroma offsets, or, where the picture is sliced, a table of `count` slices and
 // the chroma offsets.
-#[derive(Drop)]
+#[derive(Clone, Copy)]
 pub struct Given {
     pub sliced: bool,
     pub o: Offsets,

@@ -11,6 +11,7 @@ ghost use Rattle.recordings.specs.Slices.{signed_of};
 use crate::bytes::{byte_at, fill, joined};
 use crate::space;
 use sizes::Size;
+use std::io::Read;
 use strengths::calls::derive_mb;
 
 // A byte that stands for -128 to 127.
@@ -47,7 +48,7 @@ fn vectors(to: &mut [i16], raw: &[u8]) {
 }
 
 // One list's references and vectors, by way of spaces for their bytes; false where those are too small.
-fn list(fd: i32, refs: &mut [i8], mvs: &mut [i16]) -> bool {
+fn list(file: &mut impl Read, refs: &mut [i8], mvs: &mut [i16]) -> bool {
     let k = refs.len();
     let k2 = mvs.len();
     if 1920 < k {
@@ -59,8 +60,8 @@ fn list(fd: i32, refs: &mut [i8], mvs: &mut [i16]) -> bool {
     let k4 = 2 * k2;
     let raw_refs = &mut space::blocks()[..k];
     let raw_mvs = &mut space::chroma()[..k4];
-    let one = fill(fd, raw_refs);
-    let two = fill(fd, raw_mvs);
+    let one = fill(file, raw_refs);
+    let two = fill(file, raw_mvs);
     references(refs, raw_refs);
     vectors(mvs, raw_mvs);
     one & two
@@ -126,7 +127,7 @@ pub fn only_if(on: bool, k: usize) -> usize
 
 // What is read, in grids of their true sizes; those of list 1 are empty where it is not recorded.
 fn read(
-    fd: i32,
+    file: &mut impl Read,
     inter: &mut [u8],
     nnz: &mut [u8],
     ref0: &mut [i8],
@@ -134,16 +135,16 @@ fn read(
     ref1: &mut [i8],
     mv1: &mut [i16],
 ) -> bool {
-    let a = fill(fd, inter);
-    let b = fill(fd, nnz);
-    let c = list(fd, ref0, mv0);
-    let d = list(fd, ref1, mv1);
+    let a = fill(file, inter);
+    let b = fill(file, nnz);
+    let c = list(file, ref0, mv0);
+    let d = list(file, ref1, mv1);
     a & b & c & d
 }
 
 // .. and the strengths that are derived from it.
 fn read_and_derive(
-    fd: i32,
+    file: &mut impl Read,
     size: Size,
     field: bool,
     n: usize,
@@ -160,7 +161,7 @@ fn read_and_derive(
 ) -> bool
     ensures { DerivedAll size field (grids inter.new nnz.new ref0.new mv0.new ref1.new mv1.new pictures0.now pictures1.now) t8s.now n s.old result s.new }
 {
-    let whole = read(fd, inter, nnz, ref0, mv0, ref1, mv1);
+    let whole = read(file, inter, nnz, ref0, mv0, ref1, mv1);
     whole
         & derive(
             size, field, n, inter, nnz, ref0, mv0, ref1, mv1, pictures0, pictures1, t8s, s,
@@ -170,7 +171,7 @@ fn read_and_derive(
 // Reads the grids of at most 120 macroblocks and derives their strengths; false where there are more, the
 // file is too short or a call was refused.
 pub fn strengths_of(
-    fd: i32,
+    file: &mut impl Read,
     size: Size,
     field: bool,
     n: usize,
@@ -196,6 +197,6 @@ pub fn strengths_of(
     let ref1 = &mut space::references()[..m];
     let mv1 = &mut space::vectors()[..m2];
     read_and_derive(
-        fd, size, field, n, inter, nnz, ref0, mv0, ref1, mv1, pictures0, pictures1, t8s, s,
+        file, size, field, n, inter, nnz, ref0, mv0, ref1, mv1, pictures0, pictures1, t8s, s,
     )
 }

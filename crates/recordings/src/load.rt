@@ -7,6 +7,7 @@ use crate::given::Given;
 use crate::{grids, slicing, space, tables};
 use edges::Offsets;
 use sizes::Size;
+use std::io::Read;
 
 // An offset: a byte that stands for -128 to 127.
 pub fn offset(b: u8) -> i32 {
@@ -18,14 +19,14 @@ pub fn offset(b: u8) -> i32 {
 }
 
 // Three parts, one after the other.
-pub fn three(fd: i32, a: &mut [u8], b: &mut [u8], c: &mut [u8]) -> bool {
-    fill(fd, a) & fill(fd, b) & fill(fd, c)
+pub fn three(file: &mut impl Read, a: &mut [u8], b: &mut [u8], c: &mut [u8]) -> bool {
+    fill(file, a) & fill(file, b) & fill(file, c)
 }
 
 // What a header says: the size and the number of macroblocks of a picture, whether there are two pictures,
 // list 1, an 8x8 grid, slices and reference tables, whether the strengths are free of grids, and the chroma
 // offsets.
-#[derive(Drop)]
+#[derive(Clone, Copy)]
 pub struct Head {
     pub size: Size,
     pub n: usize,
@@ -41,14 +42,14 @@ pub struct Head {
 
 // What was read of a picture's grids and strengths: whether it was all there, and whether the strengths
 // derived from the grids are those of the file, by `check::same` of the kit.
-#[derive(Drop)]
+#[derive(Clone, Copy)]
 struct Strengths {
     good: bool,
     same: bool,
 }
 
 // .. of all of a picture, with what it is given.
-#[derive(Drop)]
+#[derive(Clone, Copy)]
 pub struct Loaded {
     pub good: bool,
     pub same: bool,
@@ -56,7 +57,7 @@ pub struct Loaded {
 }
 
 // .. of all pictures; `free`: the strengths are free of grids.
-#[derive(Drop)]
+#[derive(Clone, Copy)]
 pub struct Found {
     pub whole: bool,
     pub free: bool,
@@ -75,7 +76,7 @@ fn at_most(k: usize, most: usize) -> usize
 // Reads the grids of a picture and its strengths s; made are those that are derived from the grids and the
 // tables.
 fn load_strengths(
-    fd: i32,
+    file: &mut impl Read,
     head: Head,
     pictures0: &[i32],
     pictures1: &[i32],
@@ -85,9 +86,9 @@ fn load_strengths(
 ) -> Strengths {
     let n = grids::only_if(!head.free, head.n);
     let derived = grids::strengths_of(
-        fd, head.size, head.two, n, head.lists, pictures0, pictures1, t, made,
+        file, head.size, head.two, n, head.lists, pictures0, pictures1, t, made,
     );
-    let last = fill(fd, s);
+    let last = fill(file, s);
     Strengths {
         good: derived & last,
         same: check::same(made, s),
@@ -102,7 +103,7 @@ fn fitting(slices: bool, a: u8, b: u8) -> bool {
 // Reads the parts of a picture, in the file's order: offsets, table of slices rs, reference tables, QPs q,
 // 8x8 flags t, slice numbers ns, grids, strengths s.
 pub fn load(
-    fd: i32,
+    file: &mut impl Read,
     head: Head,
     rs: &mut [u8],
     q: &mut [u8],
@@ -111,18 +112,18 @@ pub fn load(
     s: &mut [u8],
 ) -> Loaded {
     let mut ab = [0u8; 2];
-    let offsets = fill(fd, &mut ab) & fitting(head.slices, ab[0], ab[1]);
-    let slices = slicing::table_if(head.slices, fd, rs);
+    let offsets = fill(file, &mut ab) & fitting(head.slices, ab[0], ab[1]);
+    let slices = slicing::table_if(head.slices, file, rs);
     let mut pictures0 = space::pictures();
     let mut pictures1 = space::pictures();
-    let list0 = tables::read_if(head.tables, fd, &mut pictures0);
-    let list1 = tables::read_if(head.tables, fd, &mut pictures1);
+    let list0 = tables::read_if(head.tables, file, &mut pictures0);
+    let list1 = tables::read_if(head.tables, file, &mut pictures1);
     let before = offsets & slices.good & list0.good & list1.good;
-    let first = before & fill(fd, q) & fill(fd, t) & slicing::read_numbers(fd, ns);
+    let first = before & fill(file, q) & fill(file, t) & slicing::read_numbers(file, ns);
     let mut made = space::strengths();
     let k = at_most(s.len(), 3840);
     let last = load_strengths(
-        fd,
+        file,
         head,
         &pictures0[..list0.count],
         &pictures1[..list1.count],
@@ -150,7 +151,7 @@ pub fn load(
 
 // .. of the second picture, where there is one.
 pub fn load_second(
-    fd: i32,
+    file: &mut impl Read,
     head: Head,
     rs: &mut [u8],
     q: &mut [u8],
@@ -159,7 +160,7 @@ pub fn load_second(
     s: &mut [u8],
 ) -> Loaded {
     if head.two {
-        return load(fd, head, rs, q, t, ns, s);
+        return load(file, head, rs, q, t, ns, s);
     }
     let o = Offsets {
         a: 0,

@@ -3,6 +3,8 @@
 // without. The strengths derived from the recorded grids are those of the file, and the planes before the
 // filter become those after it, each picture filtered as a whole, and by visits in three orders, those of two
 // fields mixed. It prints a line for each; what it must print (stdout) is that all are equal.
+#![tactic(auto)]
+
 ghost use Rattle.std.specs.Prelude.{◌≡◌, ◌*◌, ◌≤◌};
 ghost use Rattle.recordings.specs.Orders.{most_of};
 
@@ -18,25 +20,26 @@ mod tables;
 mod ways;
 
 use both::Shape;
-use bytes::{number, text, verdict};
+use bytes::{read_full, verdict};
 use given::Given;
 use load::{Found, Head};
 use sizes::Size;
+use std::io::Read;
+use std::rt::Files;
+use std::{env, fs, io};
 
-fn same_strengths(free: bool, same: bool) {
+fn same_strengths(rt: &impl Print, free: bool, same: bool) -> io::Result<()> {
     if free {
-        text(b", strengths as they are");
-        return;
+        return print!(rt; ", strengths as they are");
     }
-    verdict(b"strengths", same);
+    verdict(rt, "strengths", same)
 }
 
-fn same_whole(two: bool, good: bool) {
+fn same_whole(rt: &impl Print, two: bool, good: bool) -> io::Result<()> {
     if two {
-        verdict(b"pictures", good);
-        return;
+        return verdict(rt, "pictures", good);
     }
-    verdict(b"picture", good);
+    verdict(rt, "picture", good)
 }
 
 fn shape(head: Head, first: Given, second: Given) -> Shape {
@@ -53,6 +56,7 @@ fn shape(head: Head, first: Given, second: Given) -> Shape {
 // What became of a recording: ay, au and av are the planes after the filter. What is printed as equal is
 // equal: the contracts of `check::same` and `orders::all` say so.
 fn report(
+    rt: &impl Print,
     found: Found,
     h: Shape,
     luma: &[u8],
@@ -71,25 +75,25 @@ fn report(
     s2: &[u8],
     q2: &[u8],
     t2: &[u8],
-) {
+) -> io::Result<()> {
     if !found.whole {
-        text(b" cannot be read\n");
-        return;
+        return println!(rt; " cannot be read");
     }
-    same_strengths(found.free, found.same);
+    same_strengths(rt, found.free, found.same)?;
     let d = orders::all(
         h, luma, u, v, ay, au, av, rs, ns, s, q, t, rs2, ns2, s2, q2, t2,
     );
-    same_whole(h.two, d.whole);
-    verdict(b"raster order", d.raster);
-    verdict(b"reverse order", d.reverse);
-    verdict(b"by leaps", d.leaps);
-    text(b"\n");
+    same_whole(rt, h.two, d.whole)?;
+    verdict(rt, "raster order", d.raster)?;
+    verdict(rt, "reverse order", d.reverse)?;
+    verdict(rt, "by leaps", d.leaps)?;
+    println!(rt;)
 }
 
 // Reads the parts after the header: the planes before the filter and after it, then the pictures.
 fn replay(
-    fd: i32,
+    rt: &impl Print,
+    file: &mut impl Read,
     head: Head,
     luma: &mut [u8],
     u: &mut [u8],
@@ -107,11 +111,11 @@ fn replay(
     s2: &mut [u8],
     q2: &mut [u8],
     t2: &mut [u8],
-) -> bool {
-    let before = load::three(fd, luma, u, v);
-    let after = load::three(fd, ay, au, av);
-    let one = load::load(fd, head, rs, q, t, ns, s);
-    let two = load::load_second(fd, head, rs2, q2, t2, ns2, s2);
+) -> io::Result<bool> {
+    let before = load::three(file, luma, u, v);
+    let after = load::three(file, ay, au, av);
+    let one = load::load(file, head, rs, q, t, ns, s);
+    let two = load::load_second(file, head, rs2, q2, t2, ns2, s2);
     let found = Found {
         whole: before & after & one.good & two.good,
         free: head.free,
@@ -119,21 +123,21 @@ fn replay(
     };
     let h = shape(head, one.given, two.given);
     report(
-        found, h, luma, u, v, ay, au, av, rs, ns, s, q, t, rs2, ns2, s2, q2, t2,
-    );
-    found.whole
+        rt, found, h, luma, u, v, ay, au, av, rs, ns, s, q, t, rs2, ns2, s2, q2, t2,
+    )?;
+    Ok(found.whole)
 }
 
-fn picture(fd: i32, head: Head) -> bool {
+fn picture(rt: &impl Print, file: &mut impl Read, head: Head) -> io::Result<bool> {
     if both::most(head.two) < head.n {
-        text(b" is too large\n");
-        return false;
+        println!(rt; " is too large")?;
+        return Ok(false);
     }
-    in_space(fd, head)
+    in_space(rt, file, head)
 }
 
 // .. in spaces for the planes and grids of at most 120 macroblocks.
-fn in_space(fd: i32, head: Head) -> bool
+fn in_space(rt: &impl Print, file: &mut impl Read, head: Head) -> io::Result<bool>
     requires { head.n ≤ most_of head.two }
 {
     let n = head.n;
@@ -164,7 +168,7 @@ fn in_space(fd: i32, head: Head) -> bool
     let q2 = &mut space::marks()[..n2];
     let t2 = &mut space::marks()[..kt2];
     replay(
-        fd, head, luma, u, v, ay, au, av, rs, ns, s, q, t, rs2, ns2, s2, q2, t2,
+        rt, file, head, luma, u, v, ay, au, av, rs, ns, s, q, t, rs2, ns2, s2, q2, t2,
     )
 }
 
@@ -196,29 +200,27 @@ fn product(a: u8, b: u8) -> usize
 }
 
 // One recording, and whether another may follow.
-fn recording(fd: i32, name: &[u8]) -> bool {
+fn recording(rt: &impl Print, file: &mut impl Read, name: &str) -> io::Result<bool> {
     let mut head = [0u8; 14];
-    let got = io::read_full(fd, &mut head);
+    let got = read_full(file, &mut head);
     if got == 0 {
-        return false;
+        return Ok(false);
     }
-    text(name);
-    text(b": ");
+    print!(rt; "{name}: ")?;
     if (got != 14) | !known(&head) {
-        text(b"not of a kind that this program knows\n");
-        return false;
+        println!(rt; "not of a kind that this program knows")?;
+        return Ok(false);
     }
     let w = wide(head[4]);
     let h = wide(head[6]);
     let two = head[9] == 2;
     if two {
-        text(b"two fields of ");
+        print!(rt; "two fields of ")?;
     }
-    number(w);
-    text(b" by ");
-    number(h);
+    print!(rt; "{w} by {h}")?;
     picture(
-        fd,
+        rt,
+        file,
         Head {
             size: Size { w, h },
             n: product(head[4], head[6]),
@@ -235,30 +237,26 @@ fn recording(fd: i32, name: &[u8]) -> bool {
 }
 
 // A proved loop has to end, and nothing says that a file does, so it takes 1000 turns.
-fn recordings(fd: i32, name: &[u8]) {
+fn recordings(rt: &impl Print, file: &mut impl Read, name: &str) -> io::Result<()> {
     let mut more = true;
-    for t in 0..1000usize {
+    for _ in 0..1000usize {
         if more {
-            more = recording(fd, name);
+            more = recording(rt, file, name)?;
         }
     }
+    Ok(())
 }
 
-fn argument(i: usize) {
-    let mut name = io::buffer();
-    let length = os::arg(i, &mut name);
-    let fd = os::open_read(&name[..length]);
-    if fd < 0 {
-        text(&name[..length]);
-        text(b" cannot be opened\n");
-        return;
-    }
-    recordings(fd, &name[..length]);
-    libc::close(fd);
+fn argument(rt: &(impl Files + Print), name: &str) -> io::Result<()> {
+    let Ok(mut file) = fs::open(rt, name) else {
+        return println!(rt; "{name} cannot be opened");
+    };
+    recordings(rt, &mut file, name)
 }
 
-fn main() {
-    for i in 1..os::arg_count() {
-        argument(i);
+fn main(rt: HostRuntime) -> io::Result<()> {
+    for name in env::args(&rt)?.skip(1) {
+        argument(&rt, name.as_str())?;
     }
+    Ok(())
 }

@@ -131,7 +131,7 @@ fn holds(
 }
 
 // Whether a recording came out as recorded, in each way.
-#[derive(Drop)]
+#[derive(Clone, Copy)]
 pub struct Verdicts {
     pub whole: bool,
     pub raster: bool,

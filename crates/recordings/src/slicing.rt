@@ -1,6 +1,6 @@
 // The slices of a picture, as a recording has them: a table of records of three bytes each, which are its
-// mode, A and B, and a number for each macroblock. The table stays in its bytes: whoever held a lent slice of
-// records would have to be proved by a walk.
+// mode, A and B, and a number for each macroblock. The table stays in its bytes, and a record is made of them
+// where one is asked for (docs/DECISIONS.md, 119).
 ghost use Rattle.std.specs.Prelude.{◌≡◌, ◌<◌};
 ghost use Rattle.slices.specs.Inner.{survey_of};
 ghost use Rattle.slices.specs.Table.{record_of};
@@ -11,18 +11,19 @@ use crate::grids::signed;
 use crate::space;
 use slices::rules::{bad_mode, bad_pair};
 use slices::{SliceRecord, Survey};
+use std::io::Read;
 
 // Whether a table was read, and how many records it has.
-#[derive(Drop)]
+#[derive(Clone, Copy)]
 pub struct Records {
     pub good: bool,
     pub count: u16,
 }
 
 // Reads a table to the front of `to`; one that does not fit is not read.
-fn read_table(fd: i32, to: &mut [u8]) -> Records {
+fn read_table(file: &mut impl Read, to: &mut [u8]) -> Records {
     let mut two = [0u8; 2];
-    let counted = fill(fd, &mut two);
+    let counted = fill(file, &mut two);
     let count = joined(two[0], two[1]);
     let k = 3 * (count as usize);
     if to.len() < k {
@@ -31,7 +32,7 @@ fn read_table(fd: i32, to: &mut [u8]) -> Records {
             count: 0,
         };
     }
-    let whole = fill(fd, &mut to[..k]);
+    let whole = fill(file, &mut to[..k]);
     Records {
         good: counted & whole,
         count,
@@ -39,9 +40,9 @@ fn read_table(fd: i32, to: &mut [u8]) -> Records {
 }
 
 // .. where the recording has slices; else it is empty.
-pub fn table_if(on: bool, fd: i32, to: &mut [u8]) -> Records {
+pub fn table_if(on: bool, file: &mut impl Read, to: &mut [u8]) -> Records {
     if on {
-        return read_table(fd, to);
+        return read_table(file, to);
     }
     Records {
         good: true,
@@ -57,14 +58,14 @@ fn join(to: &mut [u16], raw: &[u8]) {
 }
 
 // Reads the numbers of at most 120 macroblocks; false where there are more, or the file is too short.
-pub fn read_numbers(fd: i32, to: &mut [u16]) -> bool {
+pub fn read_numbers(file: &mut impl Read, to: &mut [u16]) -> bool {
     let n = to.len();
     if 120 < n {
         return false;
     }
     let k = 2 * n;
     let raw = &mut space::blocks()[..k];
-    let whole = fill(fd, raw);
+    let whole = fill(file, raw);
     join(to, raw);
     whole
 }

@@ -4,9 +4,10 @@ ghost use Rattle.std.specs.Prelude.{◌≤◌};
 
 use crate::bytes::{byte_at, fill, joined};
 use crate::space;
+use std::io::Read;
 
 // Whether a table was read, and how many pictures it has.
-#[derive(Drop)]
+#[derive(Clone, Copy)]
 pub struct Table {
     pub good: bool,
     pub count: usize,
@@ -20,11 +21,11 @@ fn numbers(to: &mut [i32], raw: &[u8]) {
 }
 
 // Reads a table to the front of `to`.
-fn read(fd: i32, to: &mut [i32]) -> Table
+fn read(file: &mut impl Read, to: &mut [i32]) -> Table
     ensures { result.count ≤ 64 }
 {
     let mut two = [0u8; 2];
-    let counted = fill(fd, &mut two);
+    let counted = fill(file, &mut two);
     let count = joined(two[0], two[1]) as usize;
     if 64 < count {
         return Table {
@@ -34,7 +35,7 @@ fn read(fd: i32, to: &mut [i32]) -> Table
     }
     let k = 2 * count;
     let raw = &mut space::blocks()[..k];
-    let whole = fill(fd, raw);
+    let whole = fill(file, raw);
     numbers(to, raw);
     Table {
         good: counted & whole,
@@ -43,11 +44,11 @@ fn read(fd: i32, to: &mut [i32]) -> Table
 }
 
 // .. where the recording has tables; else it is empty.
-pub fn read_if(on: bool, fd: i32, to: &mut [i32]) -> Table
+pub fn read_if(on: bool, file: &mut impl Read, to: &mut [i32]) -> Table
     ensures { result.count ≤ 64 }
 {
     if on {
-        return read(fd, to);
+        return read(file, to);
     }
     Table {
         good: true,

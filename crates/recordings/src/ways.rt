@@ -6,7 +6,7 @@ use crate::grids::only_if;
 
 // By the call for a whole picture, or by visits in raster order, from the last macroblock to the first, or in
 // leaps of 131: a prime above 120, so that each pass has every macroblock.
-#[derive(Drop)]
+#[derive(Clone, Copy)]
 pub enum Way {
     Whole,
     Raster,

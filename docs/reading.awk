@@ -4,24 +4,25 @@
 
 function fail(what) { print what >"/dev/stderr"; bad = 1 }
 
-# crates/X/specs/A.antt of the path of a `use`; a struct or enum of the code is told apart by "src"
-function module(path,    i, crate, rest) {
-    i = index(path, ".specs.")
-    if (!i) return ""
-    crate = substr(path, length("Rattle·") + 1, i - length("Rattle·") - 1)
-    sub(/·.*/, "", crate)
-    rest = substr(path, i + 7)
-    if (rest ~ /the-variants/) return ""
-    if (rest ~ /^declared\./) return "src " crate
-    return "crates/" crate "/specs/" rest ".antt"
+# crates/X/specs/A.antt of the path of a `use`, "src X" where it leads to a struct or enum of the code, and
+# nothing of the toolchain's own libraries or of an enum's variants
+function module(path,    crate) {
+    if (path !~ /^Rattle\.[a-z0-9_]+\.specs\./ || path ~ /^Rattle\.(std|core)\./) return ""
+    crate = path
+    sub(/^Rattle\./, "", crate)
+    sub(/\..*/, "", crate)
+    sub(/^Rattle\.[a-z0-9_]+\.specs\./, "", path)
+    if (path ~ /TheVariants/) return ""
+    if (path ~ /^declared\./) return "src " crate
+    return "crates/" crate "/specs/" path ".antt"
 }
 
 # use PATH.{a, b}
 function take(line,    path, names, n, i, name) {
     path = line
     sub(/^(ghost )?use /, "", path)
-    if (path ~ /^Rattle·.* as /) alias[FILENAME] = 1
-    if (path !~ /^Rattle·.*\.\{/) return
+    if (path ~ /^Rattle\..* as /) alias[FILENAME] = 1
+    if (path !~ /^Rattle\..*\.\{/) return
     names = path
     sub(/\.\{.*/, "", path)
     sub(/.*\.\{/, "", names)
@@ -33,9 +34,9 @@ function take(line,    path, names, n, i, name) {
     }
 }
 
-# the words of a line but for projections, .x
+# the words of a line but for projections, r.x
 function words(line,    n) {
-    gsub(/ \.[^ (){};,]+/, " ", line)
+    gsub(/\.[a-z][A-Za-z0-9_]*/, " ", line)
     gsub(/[(){};,:=.]/, " ", line)
     n = split(line, word, " +")
     return n

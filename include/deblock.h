@@ -3,10 +3,11 @@
  *
  * The archive has sixteen flat calls: six that filter, three of them with slices, two that tell which
  * macroblocks are final, four that derive strengths, and four for pictures kept as YUV4MPEG2 streams. Each
- * is proved to do what its contract in crates/deblock/src says, for every content of the memory lent. At the
- * end of this file are twelve functions over structs, which hand the structs' members on to the first twelve
- * of them: start there. They are compiled with the caller and are not proved; examples/tests looks at every
- * argument that they hand on. The four of streams are short and have none.
+ * is proved to do what its contract in crates/deblock_c/src says, for every content of the memory lent; it
+ * is the contract of the function of the same name in crates/deblock/src. At the end of this file are twelve
+ * functions over structs, which hand the structs' members on to the first twelve of them: start there. They
+ * are compiled with the caller and are not proved; examples/tests looks at every argument that they hand on.
+ * The four of streams are short and have none.
  *
  * Every call but deblock_y4m_length, which tells a length, answers a number of enum deblock_answer. A number
  * other than 0 is a refusal, and a refusal changes no byte of what was lent.

@@ -1,7 +1,7 @@
 //! Finds the archive of the proved filter and hands it to the linker.
 //!
-//! DEBLOCK_ARCHIVE names it; without that it is target/staticlib/libdeblock.a, which `rt staticlib deblock`
-//! writes for x86-64, or, on other machines, target/native/libdeblock.a, which native-staticlib writes.
+//! DEBLOCK_ARCHIVE names it; without that it is target/staticlib/libdeblock.a, which
+//! `host/native-staticlib deblock_c target/staticlib/libdeblock.a` writes for the machine that it runs on.
 
 use std::env;
 use std::path::PathBuf;
@@ -9,18 +9,13 @@ use std::path::PathBuf;
 fn main() {
     println!("cargo::rerun-if-env-changed=DEBLOCK_ARCHIVE");
     let root = PathBuf::from(env::var("CARGO_MANIFEST_DIR").expect("cargo sets it")).join("../..");
-    let usual = if env::var("CARGO_CFG_TARGET_ARCH").as_deref() == Ok("x86_64") {
-        root.join("target/staticlib/libdeblock.a")
-    } else {
-        root.join("target/native/libdeblock.a")
-    };
+    let usual = root.join("target/staticlib/libdeblock.a");
     let archive = env::var_os("DEBLOCK_ARCHIVE").map_or(usual, PathBuf::from);
     println!("cargo::rerun-if-changed={}", archive.display());
     let Ok(found) = archive.canonicalize() else {
         println!("cargo::error=the archive {} was not found", archive.display());
-        println!("cargo::error=write it with `rt staticlib deblock` on x86-64, elsewhere with");
-        println!("cargo::error=`host/native-staticlib deblock target/native/libdeblock.a`, or name one with");
-        println!("cargo::error=DEBLOCK_ARCHIVE=FILE, by its whole path");
+        println!("cargo::error=write it with `host/native-staticlib deblock_c target/staticlib/libdeblock.a`,");
+        println!("cargo::error=or name one with DEBLOCK_ARCHIVE=FILE, by its whole path");
         return;
     };
     let name = found.file_name().and_then(|s| s.to_str()?.strip_prefix("lib")?.strip_suffix(".a"));

@@ -187,10 +187,9 @@
 //! # How to link
 //!
 //! Name this folder as a dependency: `deblock = { path = "../deblock/host/binding" }`. The archive is
-//! `target/staticlib/libdeblock.a` of the repository on x86-64, which `rt staticlib deblock` writes, and
-//! `target/native/libdeblock.a` elsewhere, which `host/native-staticlib deblock target/native/libdeblock.a`
-//! writes. `DEBLOCK_ARCHIVE=FILE` in the environment of cargo names another, by its whole path. No other
-//! library is needed.
+//! `target/staticlib/libdeblock.a` of the repository, which `host/native-staticlib deblock_c
+//! target/staticlib/libdeblock.a` writes there. `DEBLOCK_ARCHIVE=FILE` in the environment of cargo names
+//! another, by its whole path. No other library is needed.
 
 #![deny(missing_docs)]
 

@@ -13,7 +13,7 @@ prove() {
     echo old >"${archive%.a}.txt"
     last="native-staticlib with $2"
     got=0
-    PATH=$stub:$PATH ./native-staticlib deblock "$archive" >"$log" 2>&1 || got=$?
+    PATH=$stub:$PATH ./native-staticlib deblock_c "$archive" >"$log" 2>&1 || got=$?
     ends "$1"
 }
 
@@ -30,22 +30,19 @@ refuse 3 'exit 3'
 refuse 1 'echo "logic=none"'
 says "rt did not say logic=proved"
 
-# as on x86-64, where the archive is rt's own
-printf '#!/bin/sh\necho x86_64\n' >"$stub/uname"
-chmod +x "$stub/uname"
-prove 0 '[ $1 = version ] && echo "a kit" || echo "logic=proved functions=9"'
-cmp "$archive" ../target/staticlib/libdeblock.a
-printf 'toolchain: a kit\narchive: for x86_64, as rt wrote it\nproof: logic=proved functions=9\n' |
-    cmp - "${archive%.a}.txt"
+proof='logic=proved functions=9 target=x86_64-unknown-linux-gnu'
+prove 0 "[ \$1 = version ] && echo 'a kit' || echo '$proof'"
+cmp "$archive" ../crates/deblock_c/out/libdeblock_c.a
+printf 'toolchain: a kit\narchive: for x86_64, as rt wrote it\nproof: %s\n' "$proof" | cmp - "${archive%.a}.txt"
 
-last="native-staticlib deblock libdeblock.o"
+last="native-staticlib deblock_c libdeblock.o"
 got=0
-./native-staticlib deblock libdeblock.o >"$log" 2>&1 || got=$?
+./native-staticlib deblock_c libdeblock.o >"$log" 2>&1 || got=$?
 ends 2
-says "usage: native-staticlib NAME OUT.a"
+says "usage: native-staticlib NAME OUT.a [FLAGS]"
 last="native-staticlib in /"
 got=0
-(cd / && "$here/native-staticlib" deblock "$archive") >"$log" 2>&1 || got=$?
+(cd / && "$here/native-staticlib" deblock_c "$archive") >"$log" 2>&1 || got=$?
 ends 2
 says "no crates.txt here or above"
 echo "tool: an archive stands beside its text or not at all"

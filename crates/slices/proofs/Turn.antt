@@ -1,4 +1,5 @@
--- What the walk of a loop cites, whatever the loop does. Assumes nothing.
+-- Of a loop, whatever it does: a turn is left or none, and fewer after one; and the code after a statement.
+-- Assumes nothing.
 use mathlib.Core.Logic.{◌⊎◌, inl, inr, ⊎_elim}
 use Prim.Native.Nat.{ℕ, zero, suc, ◌-◌, ◌<◌, ◌≤◌, zero-le, suc-le-suc}
 use native.Mathlib.Omega.{arith}

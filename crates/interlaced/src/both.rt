@@ -35,7 +35,8 @@ fn visit_field(
     ensures { OneVisit size (of_field o_top strengths_top.now qps_top.now t8s_top.now) (of_field o_bottom strengths_bottom.now qps_bottom.now t8s_bottom.now) (both (planes luma.old u.old v.old) marks_top.old marks_bottom.old) (parity, (x, y)) result (both (planes luma.new u.new v.new) marks_top.new marks_bottom.new) }
 {
     let part = Part::Field(parity);
-    if parity == 0 {
+    let top = parity == 0;
+    if top {
         return visit(
             size,
             part,

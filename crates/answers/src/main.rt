@@ -3,13 +3,20 @@
 // host/oracle/examples/answers.rs makes the same calls of it.
 #![tactic(auto)]
 
-use edges::Offsets;
+use edges::{MbGrids, Offsets, Planes};
+use motion::grids::{Grids, ReferenceList};
+use pictures::Lent;
 use pictures::rows::filter_whole;
-use sizes::{Part, Size};
+use refusals::{Refusal, number};
+use sizes::{Part, Picture, Size};
+use slices::Slicing;
 use std::io;
+use strengths::Source;
 use strengths::calls::{derive_mb, derive_mb_bs, derive_mb_kind};
 use strengths::kinds::{Flagged, MbKind, Request};
 
+// Kept: (4) each loop that prints numbers has words and an end of its own around it; what is alike is two
+// lines.
 fn numbers(rt: &impl Print, s: &[u8]) -> io::Result<()> {
     for n in s {
         print!(rt; " {n}")?;
@@ -17,15 +24,47 @@ fn numbers(rt: &impl Print, s: &[u8]) -> io::Result<()> {
     println!(rt;)
 }
 
-fn answer(rt: &impl Print, n: u32, s: &[u8]) -> io::Result<()> {
-    print!(rt; "{n}:")?;
+fn answer(rt: &impl Print, outcome: Result<(), Refusal>, s: &[u8]) -> io::Result<()> {
+    print!(rt; "{}:", number(outcome))?;
     numbers(rt, s)
 }
 
 // Columns that rise by 5 every four.
 fn rise(s: &mut [u8]) {
-    for i in 0..s.len() {
-        s[i] = 60 + 5 * ((i / 4 % 8) as u8);
+    for (i, x) in s.iter_mut().enumerate() {
+        // Kept: (4) the cast loses nothing, which `try_from` would have to be told anew.
+        *x = 60 + 5 * ((i / 4 % 8) as u8);
+    }
+}
+
+// A list without a table.
+fn untabled<'a>(references: &'a [i8], vectors: &'a [i16]) -> ReferenceList<'a> {
+    ReferenceList {
+        references,
+        vectors,
+        pictures: &[],
+    }
+}
+
+// Grids of list 0 alone, without a table.
+fn one_list<'a>(inter: &'a [u8], nnz: &'a [u8], refs: &'a [i8], mvs: &'a [i16]) -> Grids<'a> {
+    let list0 = untabled(refs, mvs);
+    let list1 = untabled(&[], &[]);
+    Grids {
+        inter,
+        nnz,
+        list0,
+        list1,
+    }
+}
+
+// A frame of 2 by 1 macroblocks.
+fn two<'a>(t8s: &'a [u8], grids: Grids<'a>) -> Source<'a> {
+    Source {
+        size: Size { w: 2, h: 1 },
+        field: false,
+        t8s,
+        grids,
     }
 }
 
@@ -37,24 +76,11 @@ fn plain(rt: &impl Print, inter: u8, x: usize, t8: u8, s: &mut [u8]) -> io::Resu
     nnz[13] = 3;
     let mut mv0 = [0; 64];
     mv0[44] = 4;
-    let n = derive_mb(
-        Size { w: 2, h: 1 },
-        false,
-        x,
-        0,
-        &[0, t8],
-        &[inter; 32],
-        &nnz,
-        &[0; 32],
-        &mv0,
-        &[],
-        &[],
-        &[],
-        &[],
-        s,
-    );
+    let inters = [inter; 32];
+    let grids = one_list(&inters, &nnz, &[0; 32], &mv0);
+    let outcome = derive_mb(&two(&[0, t8], grids), x, 0, s);
     print!(rt; "plain ")?;
-    answer(rt, n, s)
+    answer(rt, outcome, s)
 }
 
 // Both lists, the pictures of the right macroblock's first block exchanged.
@@ -63,28 +89,21 @@ fn flagged(rt: &impl Print, x: usize, flat: bool, uniform: bool, s: &mut [u8]) -
     let mut ref1 = [7; 32];
     ref0[4] = 7;
     ref1[4] = 5;
-    let n = derive_mb_bs(
-        Size { w: 2, h: 1 },
-        false,
-        Flagged {
-            x,
-            y: 0,
-            flat,
-            uniform,
-        },
-        &[],
-        &[1; 32],
-        &[0; 32],
-        &ref0,
-        &[0; 64],
-        &ref1,
-        &[0; 64],
-        &[],
-        &[],
-        s,
-    );
+    let grids = Grids {
+        inter: &[1; 32],
+        nnz: &[0; 32],
+        list0: untabled(&ref0, &[0; 64]),
+        list1: untabled(&ref1, &[0; 64]),
+    };
+    let f = Flagged {
+        x,
+        y: 0,
+        flat,
+        uniform,
+    };
+    let outcome = derive_mb_bs(&two(&[], grids), f, s);
     print!(rt; "flagged ")?;
-    answer(rt, n, s)
+    answer(rt, outcome, s)
 }
 
 // Both lists with tables: indices 0 and 2 of list 0 and 1 of list 1 name picture 5, the other ones picture 7,
@@ -97,76 +116,77 @@ fn listed(rt: &impl Print, x: usize, last: i32, s: &mut [u8]) -> io::Result<()> 
     ref1[20] = 0;
     ref0[28] = 1;
     ref1[28] = -1;
-    let n = derive_mb(
-        Size { w: 2, h: 1 },
-        false,
-        x,
-        0,
-        &[],
-        &[1; 32],
-        &[0; 32],
-        &ref0,
-        &[0; 64],
-        &ref1,
-        &[0; 64],
-        &[5, 7, last],
-        &[7, 5],
-        s,
-    );
+    let grids = Grids {
+        inter: &[1; 32],
+        nnz: &[0; 32],
+        list0: ReferenceList {
+            references: &ref0,
+            vectors: &[0; 64],
+            pictures: &[5, 7, last],
+        },
+        list1: ReferenceList {
+            references: &ref1,
+            vectors: &[0; 64],
+            pictures: &[7, 5],
+        },
+    };
+    let outcome = derive_mb(&two(&[], grids), x, 0, s);
     print!(rt; "listed ")?;
-    answer(rt, n, s)
+    answer(rt, outcome, s)
 }
 
 // The left macroblock is intra, the right one inter with one motion.
 fn by_kind(rt: &impl Print, x: usize, kind: MbKind, s: &mut [u8]) -> io::Result<()> {
-    let n = derive_mb_kind(
-        Size { w: 2, h: 1 },
-        false,
-        Request { x, y: 0, kind },
-        &[],
-        &[
+    let grids = Grids {
+        inter: &[
             0, 0, 0, 0, 1, 1, 1, 1, 0, 0, 0, 0, 1, 1, 1, 1, 0, 0, 0, 0, 1, 1, 1, 1, 0, 0, 0, 0, 1,
             1, 1, 1,
         ],
-        &[0; 32],
-        &[2; 32],
-        &[-7; 64],
-        &[],
-        &[],
-        &[],
-        &[],
-        s,
-    );
+        nnz: &[0; 32],
+        list0: untabled(&[2; 32], &[-7; 64]),
+        list1: untabled(&[], &[]),
+    };
+    let outcome = derive_mb_kind(&two(&[], grids), Request { x, y: 0, kind }, s);
     print!(rt; "kind ")?;
-    answer(rt, n, s)
+    answer(rt, outcome, s)
 }
 
-fn show(rt: &impl Print, n: u32, luma: &[u8], u: &[u8], v: &[u8]) -> io::Result<()> {
-    answer(rt, n, luma)?;
-    numbers(rt, u)?;
-    numbers(rt, v)
-}
-
-// The whole picture at the QPs 30 and q, by the strengths s.
-fn frame(rt: &impl Print, q: u8, t8s: &[u8], o: Offsets, s: &[u8]) -> io::Result<()> {
+// The whole picture by the strengths s.
+fn frame<'l>(
+    rt: &impl Print,
+    qps: &'l [u8],
+    t8s: &'l [u8],
+    o: Offsets,
+    s: &'l [u8],
+) -> io::Result<()> {
     let mut luma = [0; 512];
     let mut u = [0; 128];
     let mut v = [90; 128];
     rise(&mut luma);
     rise(&mut u);
-    let n = filter_whole(
-        Size { w: 2, h: 1 },
-        Part::Frame,
-        o,
-        &mut luma,
-        &mut u,
-        &mut v,
-        s,
-        &[30, q],
-        t8s,
-    );
+    let slicing = Slicing::Single(o);
+    let lent = Lent {
+        slicing,
+        grids: MbGrids {
+            strengths: s,
+            qps,
+            t8s,
+        },
+    };
+    let mut planes = Planes {
+        luma: &mut luma,
+        u: &mut u,
+        v: &mut v,
+    };
+    let picture = Picture {
+        size: Size { w: 2, h: 1 },
+        part: Part::Frame,
+    };
+    let outcome = filter_whole(picture, &mut planes, &lent);
     print!(rt; "frame ")?;
-    show(rt, n, &luma, &u, &v)
+    answer(rt, outcome, &luma)?;
+    numbers(rt, &u)?;
+    numbers(rt, &v)
 }
 
 fn main(rt: HostRuntime) -> io::Result<()> {
@@ -187,7 +207,7 @@ fn main(rt: HostRuntime) -> io::Result<()> {
     plain(&rt, 2, 1, 0, &mut s)?;
     frame(
         &rt,
-        34,
+        &[30, 34],
         &[],
         Offsets {
             a: 0,
@@ -199,7 +219,7 @@ fn main(rt: HostRuntime) -> io::Result<()> {
     )?;
     frame(
         &rt,
-        40,
+        &[30, 40],
         &[1, 0],
         Offsets {
             a: 6,
@@ -211,7 +231,7 @@ fn main(rt: HostRuntime) -> io::Result<()> {
     )?;
     frame(
         &rt,
-        52,
+        &[30, 52],
         &[],
         Offsets {
             a: 0,

@@ -1,145 +1,205 @@
-// What the pictures hold. Picture 0 is that of the old release's fault, picture 1 is mixed. Of an interlaced
-// frame the planes and the top field are as picture 1, the bottom field is as picture 2. U and V are filled
-// differently, so that samples of one that end in the other show.
-use edges::Offsets;
+// What the pictures hold. U and V are filled differently, so that samples of one that end in the other show.
+ghost use Rattle.std.specs.Prelude.{◌<◌, ◌≤◌};
+
+use edges::{MbGrids, Offsets};
+use std::alloc::{AllocError, Global};
 
 // Flat macroblocks 100 103 above 105 104.
 fn flat(i: usize) -> u8 {
+    let upper = i < 512;
     let right = 16 <= i % 32;
-    if i < 512 {
-        if right { 103 } else { 100 }
-    } else {
-        if right { 104 } else { 105 }
+    match (upper, right) {
+        (true, false) => 100,
+        (true, true) => 103,
+        (false, false) => 105,
+        (false, true) => 104,
     }
 }
 
 // .. with strength 1 on each edge between two of them.
 fn outer(i: usize) -> u8 {
     let k = i % 32;
-    let left = (k < 4) & (32 <= i % 64);
-    let top = (16 <= k) & (k < 20) & (64 <= i);
-    if left | top { 1 } else { 0 }
+    let left = k < 4 && 32 <= i % 64;
+    let top = (16..20).contains(&k) && 64 <= i;
+    u8::from(left || top)
+}
+
+// Numbers that repeat after a time: `step` more from one to the next, `down` more from line to line, counted
+// round at `modulus`, on top of `least`.
+struct Pattern {
+    period: usize,
+    width: usize,
+    step: usize,
+    down: usize,
+    modulus: usize,
+    least: u8,
 }
 
 // Every strength, differences below and above the thresholds.
-fn mixed_luma(i: usize) -> u8 {
-    let j = i % 2048;
-    60 + ((j * 37 + j / 32 * 11) % 23) as u8
-}
+const LUMA: Pattern = Pattern {
+    period: 2048,
+    width: 32,
+    step: 37,
+    down: 11,
+    modulus: 23,
+    least: 60,
+};
 
-fn mixed_u(i: usize) -> u8 {
-    let j = i % 512;
-    120 + ((j * 13 + j / 16 * 5) % 9) as u8
-}
+const U: Pattern = Pattern {
+    period: 512,
+    width: 16,
+    step: 13,
+    down: 5,
+    modulus: 9,
+    least: 120,
+};
 
-fn mixed_v(i: usize) -> u8 {
-    let j = i % 512;
-    90 + ((j * 7 + j / 16 * 3) % 8) as u8
-}
+const V: Pattern = Pattern {
+    period: 512,
+    width: 16,
+    step: 7,
+    down: 3,
+    modulus: 8,
+    least: 90,
+};
 
-fn mixed_strength(i: usize) -> u8 {
-    let j = i % 128;
-    ((j * 3 + j / 32) % 5) as u8
-}
+const STRENGTHS: Pattern = Pattern {
+    period: 128,
+    width: 32,
+    step: 3,
+    down: 1,
+    modulus: 5,
+    least: 0,
+};
 
-fn bottom_strength(i: usize) -> u8 {
-    let j = i % 128;
-    ((j * 2 + j / 16) % 5) as u8
-}
+const BOTTOM_STRENGTHS: Pattern = Pattern {
+    period: 128,
+    width: 16,
+    step: 2,
+    down: 1,
+    modulus: 5,
+    least: 0,
+};
 
-fn luma_of(picture: u8, i: usize) -> u8 {
-    if picture == 0 { flat(i) } else { mixed_luma(i) }
-}
-
-fn u_of(picture: u8, i: usize) -> u8 {
-    if picture == 0 { 128 } else { mixed_u(i) }
-}
-
-fn v_of(picture: u8, i: usize) -> u8 {
-    if picture == 0 { 127 } else { mixed_v(i) }
-}
-
-fn strength_of(picture: u8, i: usize) -> u8 {
-    if picture == 0 {
-        return outer(i);
-    }
-    if picture == 1 {
-        return mixed_strength(i);
-    }
-    bottom_strength(i)
-}
-
-// What a grid is filled with: 0 luma, 1 U, 2 V, 3 strengths.
-fn entry(what: u8, picture: u8, i: usize) -> u8 {
-    if what == 0 {
-        return luma_of(picture, i);
-    }
-    if what == 1 {
-        return u_of(picture, i);
-    }
-    if what == 2 {
-        return v_of(picture, i);
-    }
-    strength_of(picture, i)
-}
-
-fn fill(s: &mut [u8], what: u8, picture: u8) {
-    for i in 0..s.len() {
-        s[i] = entry(what, picture, i);
+impl Pattern {
+    // Kept: (4) the cast loses nothing, which `try_from` would have to be told anew.
+    fn at(&self, i: usize) -> u8
+        requires { (0 < self.now.period) × (self.now.period ≤ 2048) × (0 < self.now.width) × (self.now.step < 64) × (self.now.down < 64) × (0 < self.now.modulus) × (self.now.modulus < 64) × (self.now.least < 128) }
+    {
+        let j = i % self.period;
+        let more = (j * self.step + j / self.width * self.down) % self.modulus;
+        self.least + more as u8
     }
 }
 
-pub fn fill_planes(luma: &mut [u8], u: &mut [u8], v: &mut [u8], picture: u8) {
-    fill(luma, 0, picture);
-    fill(u, 1, picture);
-    fill(v, 2, picture);
+// The picture of the old release's fault, one that is mixed, and one that is mixed otherwise. Of an
+// interlaced frame the planes and the top field are as the second, the bottom field is as the third.
+#[derive(Clone, Copy, Debug, PartialEq, Eq)]
+pub enum Content {
+    Flat,
+    Mixed,
+    Bottom,
 }
 
-pub fn fill_strengths(s: &mut [u8], picture: u8) {
-    fill(s, 3, picture);
-}
+impl Content {
+    // A sample, flat or mixed.
+    fn sample(self, flat: u8, mixed: u8) -> u8 {
+        match self {
+            Content::Flat => flat,
+            Content::Mixed | Content::Bottom => mixed,
+        }
+    }
 
-pub fn qps_of(picture: u8) -> [u8; 4] {
-    if picture == 0 {
-        return [40, 40, 40, 40];
+    fn strength(self, i: usize) -> u8 {
+        match self {
+            Content::Flat => outer(i),
+            Content::Mixed => STRENGTHS.at(i),
+            Content::Bottom => BOTTOM_STRENGTHS.at(i),
+        }
     }
-    if picture == 1 {
-        return [30, 36, 41, 45];
-    }
-    [44, 33, 38, 35]
-}
 
-pub fn t8s_of(picture: u8) -> [u8; 4] {
-    if picture == 0 {
-        return [0, 0, 0, 0];
+    // The planes of n macroblocks.
+    pub fn frame(self, alloc: Global, n: usize) -> Result<Frame, AllocError>
+        requires { n ≤ 8 }
+    {
+        Ok(Frame {
+            luma: (0..256 * n)
+                .map(|i| self.sample(flat(i), LUMA.at(i)))
+                .collect(alloc)?,
+            u: (0..64 * n)
+                .map(|i| self.sample(128, U.at(i)))
+                .collect(alloc)?,
+            v: (0..64 * n)
+                .map(|i| self.sample(127, V.at(i)))
+                .collect(alloc)?,
+        })
     }
-    if picture == 1 {
-        return [0, 1, 0, 1];
-    }
-    [1, 0, 0, 1]
-}
 
-pub fn offsets_of(picture: u8) -> Offsets {
-    if picture == 0 {
-        return Offsets {
-            a: 0,
-            b: 0,
-            chroma_u: 0,
-            chroma_v: 0,
+    // The grids of n macroblocks.
+    pub fn grids(self, alloc: Global, n: usize) -> Result<Grids, AllocError>
+        requires { n ≤ 4 }
+    {
+        let (qps, t8s) = match self {
+            Content::Flat => ([40, 40, 40, 40], [0, 0, 0, 0]),
+            Content::Mixed => ([30, 36, 41, 45], [0, 1, 0, 1]),
+            Content::Bottom => ([44, 33, 38, 35], [1, 0, 0, 1]),
         };
+        Ok(Grids {
+            strengths: (0..32 * n).map(|i| self.strength(i)).collect(alloc)?,
+            qps: Vec::from_slice(alloc, &qps[..n])?,
+            t8s: Vec::from_slice(alloc, &t8s[..n])?,
+        })
     }
-    if picture == 1 {
-        return Offsets {
-            a: 2,
-            b: -3,
-            chroma_u: 1,
-            chroma_v: 1,
-        };
+
+    pub fn offsets(self) -> Offsets {
+        match self {
+            Content::Flat => Offsets {
+                a: 0,
+                b: 0,
+                chroma_u: 0,
+                chroma_v: 0,
+            },
+            Content::Mixed => Offsets {
+                a: 2,
+                b: -3,
+                chroma_u: 1,
+                chroma_v: 1,
+            },
+            Content::Bottom => Offsets {
+                a: -1,
+                b: 4,
+                chroma_u: -2,
+                chroma_v: 3,
+            },
+        }
     }
-    Offsets {
-        a: -1,
-        b: 4,
-        chroma_u: -2,
-        chroma_v: 3,
+}
+
+// A frame's planes. Kept: (4) beside the `Frame` of recordings: that one is read from a file, this one is
+// made and lent to be changed; what they share is three names.
+#[derive(Drop)]
+pub struct Frame {
+    pub luma: Vec<u8>,
+    pub u: Vec<u8>,
+    pub v: Vec<u8>,
+}
+
+// A picture's grids.
+#[derive(Drop)]
+pub struct Grids {
+    pub strengths: Vec<u8>,
+    pub qps: Vec<u8>,
+    pub t8s: Vec<u8>,
+}
+
+impl Grids {
+    // As calls are lent them. Kept: (4) beside `Loaded::lent` of recordings, which lends slices too; what they
+    // share is three names.
+    pub fn lent(&self) -> MbGrids<'_> {
+        MbGrids {
+            strengths: &self.strengths,
+            qps: &self.qps,
+            t8s: &self.t8s,
+        }
     }
 }

@@ -5,147 +5,116 @@
 // those of a field, which the original does not have, by the judge's model of the rules.
 #![tactic(auto)]
 
+ghost use Rattle.std.specs.Prelude.{◌*◌, ◌≤◌};
+
 mod contents;
 mod field_orders;
 mod print;
 
-use contents::{fill_planes, fill_strengths, offsets_of, qps_of, t8s_of};
-use print::{answered, bytes, sums};
-use sizes::{Part, Size};
+use contents::Content;
+use edges::Planes;
+use pictures::Lent;
+use print::{answered, marks, sums};
+use sizes::{Part, Picture, Size};
+use slices::Slicing;
+use std::alloc::Global;
 use std::io;
 use visits::visits::replay;
 
-fn told(
+// Visits of (xs[k], ys[k]) for each k in turn, of a picture that nothing was visited of. Kept: (1) `replay`,
+// which takes columns and rows as two lists; (4) the product of the sides, which is asked to be at most 4:
+// `Size::count` would ask that the size is good besides.
+fn run(
     rt: &impl Print,
+    alloc: Global,
     name: &str,
-    n: u32,
-    answers: &[u32],
-    marks: &[u8],
-    sample: u8,
-    luma: &[u8],
-    u: &[u8],
-    v: &[u8],
-) -> io::Result<()> {
-    answered(rt, name, n, answers)?;
-    print!(rt; ", marks")?;
-    bytes(rt, marks)?;
+    size: Size,
+    content: Content,
+    xs: &[usize],
+    ys: &[usize],
+) -> io::Result<()>
+    requires { size.w * size.h ≤ 4 }
+{
+    let n = size.w * size.h;
+    let mut frame = content.frame(alloc, n)?;
+    let grids = content.grids(alloc, n)?;
+    let mut visited = vec![in alloc; 0u8; n]?;
+    let mut answers = vec![in alloc; Ok(()); xs.len()]?;
+    let outcome = replay(
+        Picture {
+            size,
+            part: Part::Frame,
+        },
+        xs,
+        ys,
+        &mut Planes {
+            luma: &mut frame.luma,
+            u: &mut frame.u,
+            v: &mut frame.v,
+        },
+        &Lent {
+            slicing: Slicing::Single(content.offsets()),
+            grids: grids.lent(),
+        },
+        &mut visited,
+        &mut answers,
+    );
+    answered(rt, name, outcome, &answers)?;
+    marks(rt, "marks", &visited)?;
+    let sample = frame.luma.get(495).copied().unwrap_or(0);
     print!(rt; ", sample {sample}, sums")?;
-    sums(rt, luma, u, v, Part::Frame)?;
+    sums(rt, &frame, Part::Frame)?;
     println!(rt;)
 }
 
-fn run(
-    rt: &impl Print,
-    name: &str,
-    picture: u8,
-    xs: &[usize; 8],
-    ys: &[usize; 8],
-) -> io::Result<()> {
-    let mut luma = [0u8; 1024];
-    let mut u = [0u8; 256];
-    let mut v = [0u8; 256];
-    let mut strengths = [0u8; 128];
-    fill_planes(&mut luma, &mut u, &mut v, picture);
-    fill_strengths(&mut strengths, picture);
-    let qps = qps_of(picture);
-    let t8s = t8s_of(picture);
-    let mut marks = [0u8; 4];
-    let mut answers = [0u32; 8];
-    let o = offsets_of(picture);
-    let n = replay(
-        Size { w: 2, h: 2 },
-        Part::Frame,
-        o,
-        xs,
-        ys,
-        &mut luma,
-        &mut u,
-        &mut v,
-        &strengths,
-        &qps,
-        &t8s,
-        &mut marks,
-        &mut answers,
-    );
-    told(rt, name, n, &answers, &marks, luma[495], &luma, &u, &v)
-}
-
-fn orders(rt: &impl Print, picture: u8) -> io::Result<()> {
-    run(
-        rt,
-        "raster order, each twice:",
-        picture,
-        &[0, 0, 1, 1, 0, 0, 1, 1],
-        &[0, 0, 0, 0, 1, 1, 1, 1],
-    )?;
-    run(
-        rt,
-        "as slices arrived:",
-        picture,
-        &[0, 0, 0, 1, 2, 0, 1, 1],
-        &[1, 0, 1, 0, 0, 1, 1, 1],
-    )?;
-    run(
-        rt,
-        "the old release's order, then again:",
-        picture,
-        &[0, 0, 1, 1, 0, 0, 0, 1],
-        &[0, 1, 0, 1, 2, 1, 0, 1],
-    )?;
-    run(
-        rt,
-        "upper row only:",
-        picture,
-        &[1, 0, 1, 0, 1, 1, 1, 0],
-        &[0, 0, 1, 1, 0, 1, 0, 0],
-    )
-}
-
-// P12's second half: in a picture one wide (0, 1) has no upper right neighbour to wait for.
-fn one_wide(rt: &impl Print) -> io::Result<()> {
-    let mut luma = [0u8; 512];
-    let mut u = [0u8; 128];
-    let mut v = [0u8; 128];
-    let mut strengths = [0u8; 64];
-    fill_planes(&mut luma, &mut u, &mut v, 1);
-    fill_strengths(&mut strengths, 1);
-    let mut marks = [0u8; 2];
-    let mut answers = [0u32; 2];
-    let n = replay(
-        Size { w: 1, h: 2 },
-        Part::Frame,
-        offsets_of(1),
-        &[0, 0],
-        &[0, 1],
-        &mut luma,
-        &mut u,
-        &mut v,
-        &strengths,
-        &[30, 36],
-        &[0, 1],
-        &mut marks,
-        &mut answers,
-    );
-    told(
-        rt,
-        "downwards:",
-        n,
-        &answers,
-        &marks,
-        luma[495],
-        &luma,
-        &u,
-        &v,
-    )
+// .. in four orders.
+fn orders(rt: &impl Print, alloc: Global, content: Content) -> io::Result<()> {
+    let arrivals = [
+        (
+            "raster order, each twice:",
+            [0, 0, 1, 1, 0, 0, 1, 1],
+            [0, 0, 0, 0, 1, 1, 1, 1],
+        ),
+        (
+            "as slices arrived:",
+            [0, 0, 0, 1, 2, 0, 1, 1],
+            [1, 0, 1, 0, 0, 1, 1, 1],
+        ),
+        (
+            "the old release's order, then again:",
+            [0, 0, 1, 1, 0, 0, 0, 1],
+            [0, 1, 0, 1, 2, 1, 0, 1],
+        ),
+        (
+            "upper row only:",
+            [1, 0, 1, 0, 1, 1, 1, 0],
+            [0, 0, 1, 1, 0, 1, 0, 0],
+        ),
+    ];
+    for (name, xs, ys) in arrivals {
+        run(rt, alloc, name, Size { w: 2, h: 2 }, content, &xs, &ys)?;
+    }
+    Ok(())
 }
 
 fn main(rt: HostRuntime) -> io::Result<()> {
+    let alloc = rt.alloc();
     println!(rt; "flat")?;
-    orders(&rt, 0)?;
+    orders(&rt, alloc, Content::Flat)?;
     println!(rt; "mixed")?;
-    orders(&rt, 1)?;
+    orders(&rt, alloc, Content::Mixed)?;
     println!(rt; "one wide")?;
-    one_wide(&rt)?;
+    // P12's second half: in a picture one wide (0, 1) has no upper right neighbour to wait for.
+    let tall = Size { w: 1, h: 2 };
+    run(
+        &rt,
+        alloc,
+        "downwards:",
+        tall,
+        Content::Mixed,
+        &[0, 0],
+        &[0, 1],
+    )?;
     println!(rt; "interlaced")?;
-    field_orders::orders(&rt)
+    field_orders::orders(&rt, alloc)
 }

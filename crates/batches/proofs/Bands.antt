@@ -13,7 +13,7 @@ use Rattle.laws.specs.Loop.{up_to}
 use Rattle.laws.specs.Places.{Plane, line_at}
 use Rattle.laws.proofs.Local.{local-up_to, line_at-in}
 use Rattle.laws.proofs.Loop.{up_to-add}
-use Rattle.batches.specs.Lines.{Straight, vertical, horizontal, upper, lower}
+use Rattle.batches.specs.Lines.{Straight, vertical, horizontal, upper, lower, from_row}
 use Rattle.batches.proofs.Parts.{Part, Apart, Lies, part-beside, part-lines}
 
 -- place i of the batch is in these columns
@@ -97,6 +97,9 @@ upper-columns = record { inside = λ k j h l. omega arith; column = λ k j h l. 
 
 pub lower-columns : Columns lower 4 2
 lower-columns = record { inside = λ k j h l. omega arith; column = λ k j h l. omega arith; row = λ k j h l. omega arith }
+
+pub row-columns : (r : ℕ) → r ≤ 4 → Columns (from_row r) r 2
+row-columns r b = record { inside = λ k j h l. omega arith; column = λ k j h l. omega arith; row = λ k j h l. omega arith }
 
 -- all sixteen lines of the batch are the band's n in the plane: of the others, c before them and e after, it
 -- sees nothing. They begin r samples after `at`

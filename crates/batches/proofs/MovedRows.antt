@@ -1,11 +1,16 @@
 -- Rows of samples moved: what comes to each place. Assumes nothing.
-use mathlib.Core.Path.{◌≡◌, refl, sym, ap, ◌∙◌}
+use mathlib.Core.Path.{◌≡◌, refl, sym, ap, subst, ◌∙◌}
 use mathlib.Core.Logic.{◌≢◌, ⊎_elim}
-use Prim.Native.Nat.{ℕ, zero, suc, ◌+◌, ◌*◌, ◌≤◌, ◌<◌}
+use Prim.Native.Nat.{ℕ, zero, suc, ◌+◌, ◌-◌, ◌*◌, ◌≤◌, ◌<◌}
 use native.Mathlib.Nat.{mul-le-mul_right, not-suc-le-zero, zero-add}
 use native.Mathlib.Omega.{arith}
-use lib.ListN.{length, get_or}
-use mathlib.Core.List.{[], ◌∷◌}
+use lib.ListN.{length, get_or, take, drop}
+use native.Mathlib.Decide.{dec_lt}
+use borrow.Rule.Slice.PartMut.{put_mid}
+use Rattle.std.proofs.lemmas.Slice.{put_mid-paste}
+use Rattle.std.proofs.lemmas.List.Edits.{paste_all}
+use Rattle.std.proofs.lemmas.List.{ext_get_or, length-take-le, length-drop, length-append, get_or-append-add, get_or_append_left, get_or-take, get_or-drop}
+use mathlib.Core.List.{[], ◌∷◌, ◌++◌}
 use Rattle.laws.specs.Local.{Local}
 use Rattle.laws.specs.Loop.{up_to}
 use Rattle.laws.specs.Places.{Plane}
@@ -32,6 +37,66 @@ module _ (n to from : ℕ) (xs ys : Plane) where
     where
       apart : Spread n (λ k. to + k) (length ys)
       apart = record { apart = λ i j a b d e. d (omega arith); room = λ i a. omega arith }
+
+  copied-spliced : to + n ≤ length ys → from + n ≤ length xs → take to ys ++ (take n (drop from xs) ++ drop (to + n) ys) ≡ copied_row n to from xs ys
+  copied-spliced h l = ext_get_or 0 _ _ lengths (λ i b. at i (dec_lt i to) (dec_lt i (to + n)))
+    where
+      middle : Plane
+      middle = take n (drop from xs)
+
+      before : length (take to ys) ≡ to
+      before = length-take-le to ys (omega arith)
+
+      within : length middle ≡ n
+      within = length-take-le n (drop from xs) (rw (length-drop from xs) (omega arith))
+
+      lengths : length (take to ys ++ (middle ++ drop (to + n) ys)) ≡ length (copied_row n to from xs ys)
+      lengths = rw (copied-length, length-append (take to ys) (middle ++ drop (to + n) ys), length-append middle (drop (to + n) ys), before, within, length-drop (to + n) ys) (omega arith)
+
+      after : (j : ℕ) → get_or (take to ys ++ (middle ++ drop (to + n) ys)) (to + j) 0 ≡ get_or (middle ++ drop (to + n) ys) j 0
+      after j = (λ k. get_or (take to ys ++ (middle ++ drop (to + n) ys)) (sym before k + j) 0) ∙ get_or-append-add (take to ys) (middle ++ drop (to + n) ys) j 0
+
+      inside : (j : ℕ) → j < n → get_or (take to ys ++ (middle ++ drop (to + n) ys)) (to + j) 0 ≡ get_or (copied_row n to from xs ys) (to + j) 0
+      inside j b =
+          after j
+          ∙ get_or_append_left middle (drop (to + n) ys) 0 j (rw within b)
+          ∙ get_or-take n (drop from xs) j 0 b
+          ∙ get_or-drop from xs j 0
+          ∙ sym (copied_at h j b)
+
+      beyond : (j : ℕ) → get_or (take to ys ++ (middle ++ drop (to + n) ys)) (to + (n + j)) 0 ≡ get_or (copied_row n to from xs ys) (to + (n + j)) 0
+      beyond j =
+          after (n + j)
+          ∙ (λ k. get_or (middle ++ drop (to + n) ys) (sym within k + j) 0)
+          ∙ get_or-append-add middle (drop (to + n) ys) j 0
+          ∙ get_or-drop (to + n) ys j 0
+          ∙ (let e : to + n + j ≡ to + (n + j) = omega arith in λ k. get_or ys (e k) 0)
+          ∙ sym (copied-off (to + (n + j)) (λ k b e. omega arith))
+
+      at : (i : ℕ) → Dec (i < to) → Dec (i < to + n) → get_or (take to ys ++ (middle ++ drop (to + n) ys)) i 0 ≡ get_or (copied_row n to from xs ys) i 0
+      at i (yes a) b =
+          get_or_append_left (take to ys) (middle ++ drop (to + n) ys) 0 i (rw before a)
+          ∙ get_or-take to ys i 0 a
+          ∙ sym (copied-off i (λ k b e. omega arith))
+      at i (no a) (yes b) =
+          subst (λ (k : ℕ). get_or (take to ys ++ (middle ++ drop (to + n) ys)) k 0 ≡ get_or (copied_row n to from xs ys) k 0) (let e : to + (i - to) ≡ i = omega arith in e)
+          (inside (i - to) (omega arith))
+      at i (no a) (no b) =
+          subst (λ (k : ℕ). get_or (take to ys ++ (middle ++ drop (to + n) ys)) k 0 ≡ get_or (copied_row n to from xs ys) k 0) (let e : to + (n + (i - to - n)) ≡ i = omega arith in e)
+          (beyond (i - to - n))
+
+  -- as code copies a slice into another
+  pub copied-put : {zs : Plane} → zs ≡ take (from + n - from) (drop from xs) → to + n ≤ length ys → from + n ≤ length xs → put_mid to (to + n - to) ys zs ≡ copied_row n to from xs ys
+  copied-put {zs} e h l =
+      put_mid-paste to (to + n - to) ys zs row n (let k : from + n - from ≡ n = omega arith in e ∙ (λ i. take (k i) (drop from xs))) (omega arith) long
+      ∙ paste_all ys to row n long
+      ∙ copied-spliced h l
+    where
+      row : Plane
+      row = take n (drop from xs)
+
+      long : n ≡ length row
+      long = sym (length-take-le n (drop from xs) (rw (length-drop from xs) (omega arith)))
 
 -- ---- h rows: their places do not overlap where a row has n places or more
 module _ (n to by from stride : ℕ) (xs ys : Plane) where

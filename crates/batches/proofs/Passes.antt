@@ -56,8 +56,8 @@ module _ (place : ℕ → ℕ) (r m : ℕ) (cs : Columns place r m) (f : ℕ →
 pub pass-idle : (on : ℕ → Bool) (strength : ℕ → ℕ) (line : ℕ → Plane → Plane) (t : Plane) → ((k : ℕ) → on (strength k) ≡ false) → up_to 16 (pass_of on strength line) t ≡ t
 pass-idle on strength line t e = up_to-idle 16 (pass_of on strength line) t (λ k u h. ap (λ (b : Bool). cond b (line k u) u) (e k))
 
--- ---- a pass by its lanes: line k has the thresholds `by k` and is lent alpha and beta, and in the first pass
--- a cap
+-- ---- a pass by its lanes: line k has the thresholds `by k` and is lent alpha and beta, and in the first
+-- pass a cap
 module _ (h : Shape) (place strength : ℕ → ℕ) (by : ℕ → Thresholds) where
   abbrev pub line_by : ℕ → Plane → Plane
   line_by k = line_at h.n (with_of h (by k) (strength k)) (place k) 16

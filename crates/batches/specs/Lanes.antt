@@ -1,8 +1,14 @@
 -- Apart: no promise to a caller of the public calls rests on it. The lanes of a batch: what each of its
 -- sixteen lines is lent in a pass.
-use Rattle.std.specs.Prelude.{ℕ, ◌+◌, ◌*◌, Bool, cond, ◌&&◌, ◌||◌, List, [], ◌∷◌, ltb, eqb, get_or}
+use Rattle.std.specs.Prelude.{ℕ, ◌+◌, ◌*◌, ◌<◌, ◌≡◌, Bool, cond, ◌&&◌, ◌||◌, List, [], ◌∷◌, Option, Some, None, ltb, eqb, get_or}
+use Rattle.lines.specs.declared.limits.Limits.{Limits}
 use Rattle.batches.specs.declared.lanes.Four.{Four}
 use Rattle.batches.specs.declared.lanes.Thresholds.{Thresholds}
+
+-- the thresholds of an edge as numbers: where nothing is to be filtered alpha is 0, which leaves each line
+abbrev pub as_thresholds : Option Limits → Thresholds
+as_thresholds (Some l) = record { alpha = l.alpha; beta = l.beta; index = l.index }
+as_thresholds None = record { alpha = 0; beta = 0; index = 0 }
 
 -- strengths are of five kinds, since 4 and above are one. A row has a value for each kind: in the pass of
 -- strengths 1 to 3 a cap (`cap_row` of lines/specs/Inner), in the other an alpha. A cap or an alpha of 0
@@ -15,6 +21,10 @@ strong_row l = 0 ∷ 0 ∷ 0 ∷ 0 ∷ l.alpha ∷ []
 
 abbrev pub at_slot : List ℕ → ℕ → ℕ
 at_slot l s = get_or l (slot_of s) 0
+
+-- a function looks up what the row l has, for each kind
+abbrev pub LooksUp : (ℕ → ℕ → Type 0) → List ℕ → Type 0
+LooksUp post l = (i x : ℕ) → i < 5 → post i x → x ≡ get_or l i 0
 
 -- sixteen lanes, two of each value
 abbrev pub spread_of : ℕ → ℕ → ℕ → ℕ → ℕ → ℕ → ℕ → ℕ → List ℕ

@@ -13,8 +13,9 @@ use Rattle.lines.specs.Planes.{luma_at, chroma_at}
 use Rattle.lines.specs.Tables.{tc0_at}
 use Rattle.lines.specs.declared.luma.Six.{Six}
 use Rattle.lines.specs.declared.shared.Two.{Two}
-use Rattle.batches.specs.declared.chroma.Both.{Both}
+use Rattle.batches.specs.declared.lanes.Both.{Both}
 use Rattle.batches.specs.declared.lanes.Four.{Four}
+use Rattle.batches.specs.declared.lanes.Single.{Single}
 use Rattle.batches.specs.declared.lanes.Thresholds.{Thresholds}
 
 -- the strength of line k, with n lines to a segment: 4 in luma, 2 in chroma
@@ -36,7 +37,10 @@ long_lines d s l at along step = up_to 16 (λ k. luma_at (luma_with d l (segment
 unfoldable pub short_lines : Depth → Four → Thresholds → ℕ → ℕ → ℕ → Plane → Plane
 short_lines d s l at along step = up_to 8 (λ k. chroma_at (chroma_with d l (segment_strength 2 s k)) (at + k * along) step)
 
--- what an edge is filtered with in both chroma planes has its tC0 in the tables
+-- what an edge is filtered with has its tC0 in the tables: in one plane, in both chroma planes
+abbrev pub InTable : Single → Type 0
+InTable e = e.by.index < 52
+
 abbrev pub InTables : Both → Type 0
 InTables e = (e.u.index < 52) × (e.v.index < 52)
 
@@ -53,6 +57,9 @@ upper k = k
 
 abbrev pub lower : ℕ → ℕ
 lower k = 64 + k
+
+abbrev pub from_row : ℕ → ℕ → ℕ
+from_row r k = 16 * r + k
 
 abbrev pub long_at : Depth → Four → Thresholds → ℕ → Plane → Plane
 long_at d s l k = luma_at (luma_with d l (segment_strength 4 s k)) (upper k) 16

@@ -1,14 +1,13 @@
 // What each of a batch's sixteen lines is lent, by the strength of its segment. Values come from a row of
 // five, not by branches, which mixed strengths would mislead.
-ghost use Rattle.std.specs.Prelude.{◌≡◌, false, ◌<◌};
-ghost use Rattle.lines.specs.Depth.{eight};
-ghost use Rattle.lines.specs.Inner.{tables, cap_row};
-ghost use Rattle.batches.specs.Lanes.{slot_of, strong_row, spread_of, four_each, two_each, eight_each, is_weak, is_strong, any, word_of, no_strength, still_edge};
+ghost use Rattle.std.specs.Prelude.{◌≡◌, false, ℕ, ◌<◌, List};
+ghost use Rattle.batches.specs.Lanes.{LooksUp, as_thresholds, slot_of, strong_row, spread_of, four_each, two_each, eight_each, is_weak, is_strong, any, word_of, no_strength, still_edge};
 
-use lines::tables::cap_at;
+use lines::limits::Limits;
 
-// The strengths of an edge's four segments.
-#[derive(Clone, Copy)]
+// The strengths of an edge's four segments. Kept: (1) no [u8; 4]: `word_of`, `any`, `four_each`, `two_each`
+// and `segment_strength` of specs/ name its members.
+#[derive(Clone, Copy, Debug, PartialEq, Eq)]
 pub struct Four {
     pub a: u8,
     pub b: u8,
@@ -18,11 +17,47 @@ pub struct Four {
 
 // What the lines of an edge are filtered with: alpha, beta, and the index that tC0 has in the tables. An
 // alpha of 0 leaves them all.
-#[derive(Clone, Copy)]
+// Kept: (4) no `Option`: a lane has no branch to leave by, so that what is left is said by a number. And no
+// `Limits`: a batch looks its caps up by the index, and tc1 to tc3 would be handed on and never read.
+#[derive(Clone, Copy, Debug, PartialEq, Eq)]
 pub struct Thresholds {
     pub alpha: u8,
     pub beta: u8,
     pub index: usize,
+}
+
+impl From<Option<Limits>> for Thresholds {
+    ghost from_gives = { λ m l. l ≡ as_thresholds m };
+
+    fn from(m: Option<Limits>) -> Thresholds {
+        match m {
+            Some(limits) => Thresholds {
+                alpha: limits.alpha,
+                beta: limits.beta,
+                index: limits.index,
+            },
+            None => Thresholds {
+                alpha: 0,
+                beta: 0,
+                index: 0,
+            },
+        }
+    }
+}
+
+// What an edge is filtered with in one plane.
+#[derive(Clone, Copy, Debug, PartialEq, Eq)]
+pub struct Single {
+    pub s: Four,
+    pub by: Thresholds,
+}
+
+// .. in both chroma planes.
+#[derive(Clone, Copy, Debug, PartialEq, Eq)]
+pub struct Both {
+    pub s: Four,
+    pub u: Thresholds,
+    pub v: Thresholds,
 }
 
 // Where a row has the value of a strength: 4 and above are one.
@@ -30,7 +65,7 @@ fn slot(s: u8) -> usize
     ensures is { result ≡ slot_of s }
     ensures small { result < 5 }
 {
-    if s < 4 { s as usize } else { 4 }
+    usize::from(s.min(4))
 }
 
 // Alpha in the pass of strength 4.
@@ -41,67 +76,38 @@ pub fn strong_row(l: Thresholds) -> [u8; 5]
 }
 
 // Sixteen lanes, two of each value.
+// Kept: (4) eight values: `two_each` has four of one row and four of another, so that an array of them would
+// be written out all the same.
 fn spread(a: u8, b: u8, c: u8, d: u8, e: u8, f: u8, g: u8, h: u8) -> [u8; 16]
     ensures { result ≡ spread_of a b c d e f g h }
 {
     [a, a, b, b, c, c, d, d, e, e, f, f, g, g, h, h]
 }
 
-// Of each luma line the value that l has for its strength.
-pub fn four_each(l: [u8; 5], s: Four) -> [u8; 16]
-    ensures { result ≡ four_each l s }
+// Of each luma line the value that `row` has for its strength. Kept: (4) beside `two_each`: four lookups in
+// one row, there eight in two.
+pub fn four_each<F: Fn(usize) -> u8>(row: F, s: Four) -> [u8; 16]
+    requires { (i : ℕ) → i < 5 → F.pre row i }
+    ensures { (l : List ℕ) → LooksUp (F.post row) l → result ≡ four_each l s }
 {
-    let a = l[slot(s.a)];
-    let b = l[slot(s.b)];
-    let c = l[slot(s.c)];
-    let d = l[slot(s.d)];
+    let a = row(slot(s.a));
+    let b = row(slot(s.b));
+    let c = row(slot(s.c));
+    let d = row(slot(s.d));
     spread(a, a, b, b, c, c, d, d)
 }
 
-// Of each of U's chroma lines the value that l has for its strength, and of V's that of m.
-pub fn two_each(l: [u8; 5], m: [u8; 5], s: Four) -> [u8; 16]
-    ensures { result ≡ two_each l m s }
+// Of each of U's chroma lines the value that the row u has for its strength, and of V's that of v.
+pub fn two_each<F: Fn(usize) -> u8, G: Fn(usize) -> u8>(u: F, v: G, s: Four) -> [u8; 16]
+    requires u_row { (i : ℕ) → i < 5 → F.pre u i }
+    requires v_row { (i : ℕ) → i < 5 → G.pre v i }
+    ensures { (l m : List ℕ) → LooksUp (F.post u) l → LooksUp (G.post v) m → result ≡ two_each l m s }
 {
     let a = slot(s.a);
     let b = slot(s.b);
     let c = slot(s.c);
     let d = slot(s.d);
-    spread(l[a], l[b], l[c], l[d], m[a], m[b], m[c], m[d])
-}
-
-// Of each luma line its cap.
-pub fn four_caps(tab: &[u8; 416], index: usize, s: Four) -> [u8; 16]
-    requires tab_value { tab.now ≡ tables }
-    requires index_bound { index < 52 }
-    ensures { result ≡ four_each (cap_row eight index) s }
-{
-    let a = cap_at(tab, index, slot(s.a));
-    let b = cap_at(tab, index, slot(s.b));
-    let c = cap_at(tab, index, slot(s.c));
-    let d = cap_at(tab, index, slot(s.d));
-    spread(a, a, b, b, c, c, d, d)
-}
-
-// Of each chroma line its cap: those of U's are at the index u, those of V's at v.
-pub fn two_caps(tab: &[u8; 416], u: usize, v: usize, s: Four) -> [u8; 16]
-    requires tab_value { tab.now ≡ tables }
-    requires u_bound { (u < 52) × (v < 52) }
-    ensures { result ≡ two_each (cap_row eight u) (cap_row eight v) s }
-{
-    let a = slot(s.a);
-    let b = slot(s.b);
-    let c = slot(s.c);
-    let d = slot(s.d);
-    spread(
-        cap_at(tab, u, a),
-        cap_at(tab, u, b),
-        cap_at(tab, u, c),
-        cap_at(tab, u, d),
-        cap_at(tab, v, a),
-        cap_at(tab, v, b),
-        cap_at(tab, v, c),
-        cap_at(tab, v, d),
-    )
+    spread(u(a), u(b), u(c), u(d), v(a), v(b), v(c), v(d))
 }
 
 // x for U's chroma lines and y for V's.
@@ -115,15 +121,14 @@ pub fn eight_each(x: u8, y: u8) -> [u8; 16]
 fn word(s: Four) -> u32
     ensures { result ≡ word_of s }
 {
-    s.a as u32 + 256 * (s.b as u32 + 256 * (s.c as u32 + 256 * (s.d as u32)))
+    u32::from_le_bytes([s.a, s.b, s.c, s.d])
 }
 
-// Some line may have a strength of 1 to 3: not all have 4, as at the border of an intra macroblock. Four 4s
-// are 67372036.
+// Some line may have a strength of 1 to 3: not all have 4, as at the border of an intra macroblock.
 pub fn any_weak(s: Four) -> bool
     ensures { result ≡ false → any is_weak s ≡ false }
 {
-    word(s) != 67372036
+    word(s) != 0x0404_0404
 }
 
 // Some line has a strength of 4: it has a bit that 0 to 3 have not.

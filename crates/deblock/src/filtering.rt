@@ -1,26 +1,19 @@
 // The calls that filter rows of a picture, for C.
-ghost use Rattle.std.specs.Prelude.{◌≡◌};
+// Kept: (1) flat parameters, numbers for answers and for parts, one function a call: the C interface; (4) the
+// lines that make what a call takes stand in each body: a function for them would be told ten values or more,
+// to save two lines.
 ghost use Rattle.edges.specs.Picture.{planes};
 ghost use Rattle.pictures.specs.Checks.{lent};
 ghost use Rattle.pictures.specs.Rows.{RowOutcome, WholeOutcome};
 ghost use Rattle.deblock.specs.Numbers.{size_of, part_number, offsets};
 
-use edges::Offsets;
+use crate::lending::{lent_by, picture, single};
+use edges::Planes;
 use pictures::rows::{filter_rows, filter_whole};
-use sizes::{Part, Size};
-
-// The part that a number stands for: 0 a frame, 1 its top field, 2 its bottom field.
-pub fn part_of_number(k: u8) -> Part
-    ensures { result ≡ part_number k }
-{
-    if k == 0 {
-        return Part::Frame;
-    }
-    Part::Field(k - 1)
-}
+use refusals::number;
 
 // A whole picture.
-pub fn deblock_whole(
+pub fn deblock_whole<'l, 'p>(
     w: usize,
     h: usize,
     part: u8,
@@ -28,28 +21,24 @@ pub fn deblock_whole(
     b: i32,
     chroma_u: i32,
     chroma_v: i32,
-    luma: &mut [u8],
-    u: &mut [u8],
-    v: &mut [u8],
-    strengths: &[u8],
-    qps: &[u8],
-    t8s: &[u8],
+    luma: &'p mut [u8],
+    u: &'p mut [u8],
+    v: &'p mut [u8],
+    strengths: &'l [u8],
+    qps: &'l [u8],
+    t8s: &'l [u8],
 ) -> u32
     ensures { WholeOutcome (part_number part) (lent (size_of w h) (offsets a b chroma_u chroma_v) strengths.now qps.now t8s.now) (planes luma.old u.old v.old) result (planes luma.new u.new v.new) }
 {
-    let size = Size { w, h };
-    let part = part_of_number(part);
-    let o = Offsets {
-        a,
-        b,
-        chroma_u,
-        chroma_v,
-    };
-    filter_whole(size, part, o, luma, u, v, strengths, qps, t8s)
+    let picture = picture(w, h, part);
+    let slicing = single(a, b, chroma_u, chroma_v);
+    let lent = lent_by(slicing, strengths, qps, t8s);
+    let mut planes = Planes { luma, u, v };
+    number(filter_whole(picture, &mut planes, &lent))
 }
 
 // Rows first to last, the last not among them.
-pub fn deblock_rows(
+pub fn deblock_rows<'l, 'p>(
     w: usize,
     h: usize,
     part: u8,
@@ -59,22 +48,18 @@ pub fn deblock_rows(
     b: i32,
     chroma_u: i32,
     chroma_v: i32,
-    luma: &mut [u8],
-    u: &mut [u8],
-    v: &mut [u8],
-    strengths: &[u8],
-    qps: &[u8],
-    t8s: &[u8],
+    luma: &'p mut [u8],
+    u: &'p mut [u8],
+    v: &'p mut [u8],
+    strengths: &'l [u8],
+    qps: &'l [u8],
+    t8s: &'l [u8],
 ) -> u32
     ensures { RowOutcome (part_number part) (lent (size_of w h) (offsets a b chroma_u chroma_v) strengths.now qps.now t8s.now) first last (planes luma.old u.old v.old) result (planes luma.new u.new v.new) }
 {
-    let size = Size { w, h };
-    let part = part_of_number(part);
-    let o = Offsets {
-        a,
-        b,
-        chroma_u,
-        chroma_v,
-    };
-    filter_rows(size, part, first, last, o, luma, u, v, strengths, qps, t8s)
+    let picture = picture(w, h, part);
+    let slicing = single(a, b, chroma_u, chroma_v);
+    let lent = lent_by(slicing, strengths, qps, t8s);
+    let mut planes = Planes { luma, u, v };
+    number(filter_rows(picture, first, last, &mut planes, &lent))
 }

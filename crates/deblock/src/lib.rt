@@ -4,6 +4,7 @@
 
 pub mod derivation;
 pub mod filtering;
+pub mod lending;
 pub mod showing;
 pub mod slicing;
 pub mod streams;

@@ -1,4 +1,5 @@
 // The calls that tell which macroblocks are final, for C.
+// Kept: (1) flat parameters, numbers for answers, one function a call: the C interface.
 ghost use Rattle.std.specs.Prelude.{◌≡◌};
 ghost use Rattle.finality.specs.Final.{finality_of, finals_of};
 ghost use Rattle.deblock.specs.Numbers.{size_of};
@@ -12,7 +13,7 @@ pub fn deblock_is_final(w: usize, h: usize, x: usize, y: usize, marks: &[u8]) ->
     ensures { result ≡ finality_of (size_of w h) marks.now x y }
 {
     let size = Size { w, h };
-    is_final(size, x, y, marks)
+    is_final(size, x, y, marks).into()
 }
 
 // What a visit has made final.
@@ -20,5 +21,5 @@ pub fn deblock_made_final(w: usize, h: usize, x: usize, y: usize, marks: &[u8]) 
     ensures { result ≡ finals_of (size_of w h) marks.now x y }
 {
     let size = Size { w, h };
-    made_final(size, x, y, marks)
+    made_final(size, x, y, marks).into()
 }

@@ -1,56 +1,46 @@
-// The calls that are lent a table of slices, for C. They hold the table and do nothing but call.
-ghost use Rattle.std.specs.Prelude.{◌≡◌};
+// The calls that are lent a table of slices, for C.
+// Kept: (1) flat parameters, numbers for answers and for parts, one function a call: the C interface; (4) the
+// lines that make what is lent and the planes stand in each body, as in filtering.rt.
 ghost use Rattle.edges.specs.Picture.{planes};
 ghost use Rattle.pictures.specs.Checks.{lent_slices};
 ghost use Rattle.pictures.specs.Rows.{RowOutcome, WholeOutcome};
 ghost use Rattle.visits.specs.Promise.{VisitOutcome};
 ghost use Rattle.deblock.specs.Numbers.{size_of, part_number, chroma_numbers};
 
-use crate::filtering::part_of_number;
-use sizes::Size;
-use sliced::calls::{filter_rows_slices, filter_whole_slices, visit_slices};
-use slices::{ChromaOffsets, SliceRecord};
-
-fn size_of_numbers(w: usize, h: usize) -> Size
-    ensures { result ≡ size_of w h }
-{
-    Size { w, h }
-}
-
-fn chroma_of_numbers(u: i32, v: i32) -> ChromaOffsets
-    ensures { result ≡ chroma_numbers u v }
-{
-    ChromaOffsets { u, v }
-}
+use crate::lending::{lent_by, picture, sliced};
+use edges::Planes;
+use pictures::rows::{filter_rows, filter_whole};
+use refusals::number;
+use slices::SliceRecord;
+use visits::visits::visit;
 
 // A whole picture.
-pub fn deblock_whole_slices(
+pub fn deblock_whole_slices<'l, 'p>(
     w: usize,
     h: usize,
     part: u8,
     chroma_u: i32,
     chroma_v: i32,
-    slices: &[SliceRecord],
-    numbers: &[u16],
-    luma: &mut [u8],
-    u: &mut [u8],
-    v: &mut [u8],
-    strengths: &[u8],
-    qps: &[u8],
-    t8s: &[u8],
+    slices: &'l [SliceRecord],
+    numbers: &'l [u16],
+    luma: &'p mut [u8],
+    u: &'p mut [u8],
+    v: &'p mut [u8],
+    strengths: &'l [u8],
+    qps: &'l [u8],
+    t8s: &'l [u8],
 ) -> u32
     ensures { WholeOutcome (part_number part) (lent_slices (size_of w h) (chroma_numbers chroma_u chroma_v) slices.now numbers.now strengths.now qps.now t8s.now) (planes luma.old u.old v.old) result (planes luma.new u.new v.new) }
 {
-    let size = size_of_numbers(w, h);
-    let of_frame = part_of_number(part);
-    let c = chroma_of_numbers(chroma_u, chroma_v);
-    filter_whole_slices(
-        size, of_frame, c, slices, numbers, luma, u, v, strengths, qps, t8s,
-    )
+    let picture = picture(w, h, part);
+    let slicing = sliced(chroma_u, chroma_v, slices, numbers);
+    let lent = lent_by(slicing, strengths, qps, t8s);
+    let mut planes = Planes { luma, u, v };
+    number(filter_whole(picture, &mut planes, &lent))
 }
 
 // Rows first to last, the last not among them.
-pub fn deblock_rows_slices(
+pub fn deblock_rows_slices<'l, 'p>(
     w: usize,
     h: usize,
     part: u8,
@@ -58,27 +48,26 @@ pub fn deblock_rows_slices(
     last: usize,
     chroma_u: i32,
     chroma_v: i32,
-    slices: &[SliceRecord],
-    numbers: &[u16],
-    luma: &mut [u8],
-    u: &mut [u8],
-    v: &mut [u8],
-    strengths: &[u8],
-    qps: &[u8],
-    t8s: &[u8],
+    slices: &'l [SliceRecord],
+    numbers: &'l [u16],
+    luma: &'p mut [u8],
+    u: &'p mut [u8],
+    v: &'p mut [u8],
+    strengths: &'l [u8],
+    qps: &'l [u8],
+    t8s: &'l [u8],
 ) -> u32
     ensures { RowOutcome (part_number part) (lent_slices (size_of w h) (chroma_numbers chroma_u chroma_v) slices.now numbers.now strengths.now qps.now t8s.now) first last (planes luma.old u.old v.old) result (planes luma.new u.new v.new) }
 {
-    let size = size_of_numbers(w, h);
-    let of_frame = part_of_number(part);
-    let c = chroma_of_numbers(chroma_u, chroma_v);
-    filter_rows_slices(
-        size, of_frame, first, last, c, slices, numbers, luma, u, v, strengths, qps, t8s,
-    )
+    let picture = picture(w, h, part);
+    let slicing = sliced(chroma_u, chroma_v, slices, numbers);
+    let lent = lent_by(slicing, strengths, qps, t8s);
+    let mut planes = Planes { luma, u, v };
+    number(filter_rows(picture, first, last, &mut planes, &lent))
 }
 
 // One macroblock, marked once filtered.
-pub fn deblock_visit_slices(
+pub fn deblock_visit_slices<'l, 'p>(
     w: usize,
     h: usize,
     part: u8,
@@ -86,22 +75,21 @@ pub fn deblock_visit_slices(
     y: usize,
     chroma_u: i32,
     chroma_v: i32,
-    slices: &[SliceRecord],
-    numbers: &[u16],
-    luma: &mut [u8],
-    u: &mut [u8],
-    v: &mut [u8],
-    strengths: &[u8],
-    qps: &[u8],
-    t8s: &[u8],
+    slices: &'l [SliceRecord],
+    numbers: &'l [u16],
+    luma: &'p mut [u8],
+    u: &'p mut [u8],
+    v: &'p mut [u8],
+    strengths: &'l [u8],
+    qps: &'l [u8],
+    t8s: &'l [u8],
     marks: &mut [u8],
 ) -> u32
     ensures { VisitOutcome (part_number part) (lent_slices (size_of w h) (chroma_numbers chroma_u chroma_v) slices.now numbers.now strengths.now qps.now t8s.now) (planes luma.old u.old v.old, marks.old) (x, y) result (planes luma.new u.new v.new, marks.new) }
 {
-    let size = size_of_numbers(w, h);
-    let of_frame = part_of_number(part);
-    let c = chroma_of_numbers(chroma_u, chroma_v);
-    visit_slices(
-        size, of_frame, x, y, c, slices, numbers, luma, u, v, strengths, qps, t8s, marks,
-    )
+    let picture = picture(w, h, part);
+    let slicing = sliced(chroma_u, chroma_v, slices, numbers);
+    let lent = lent_by(slicing, strengths, qps, t8s);
+    let mut planes = Planes { luma, u, v };
+    number(visit(picture, x, y, &mut planes, &lent, marks))
 }

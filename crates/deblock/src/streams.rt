@@ -1,7 +1,9 @@
 // The calls that read and write pictures as streams of YUV4MPEG2, for C.
+// Kept: (1) flat parameters, numbers for answers, one function a call: the C interface.
 ghost use Rattle.y4m.specs.Calls.{LookOutcome, ReadOutcome, LengthOutcome, WriteOutcome};
 ghost use Rattle.deblock.specs.Numbers.{size_of};
 
+use refusals::number;
 use sizes::Size;
 use y4m::Found;
 use y4m::reader::{look, read};
@@ -11,17 +13,17 @@ use y4m::writer::{length, write};
 pub fn deblock_y4m_look(stream: &[u8]) -> Found
     ensures { LookOutcome stream.now result }
 {
-    look(stream)
+    Found::of(look(stream))
 }
 
 // Its planes.
 pub fn deblock_y4m_read(stream: &[u8], luma: &mut [u8], u: &mut [u8], v: &mut [u8]) -> Found
     ensures { ReadOutcome stream.now luma.old u.old v.old result luma.new u.new v.new }
 {
-    read(stream, luma, u, v)
+    Found::of(read(stream, luma, u, v))
 }
 
-// How long a stream of one picture is.
+// How long a stream of one picture is; 0 where its size is refused.
 pub fn deblock_y4m_length(w: usize, h: usize) -> usize
     ensures { LengthOutcome (size_of w h) result }
 {
@@ -41,5 +43,5 @@ pub fn deblock_y4m_write(
     ensures { WriteOutcome (size_of w h) luma.now u.now v.now stream.old result stream.new }
 {
     let size = Size { w, h };
-    write(size, luma, u, v, stream)
+    number(write(size, luma, u, v, stream))
 }

@@ -1,4 +1,5 @@
 // The strength calls, for C.
+// Kept: (1) flat parameters, numbers for answers and for kinds, one function a call: the C interface.
 ghost use Rattle.motion.specs.Grids.{grids};
 ghost use Rattle.strengths.specs.Calls.{DeriveOutcome, FlagsOutcome, PlainOutcome, DeriveRowOutcome};
 ghost use Rattle.deblock.specs.Numbers.{size_of, is_set, flagged, untrue_number};
@@ -86,7 +87,8 @@ pub extern "C" fn deblock_strengths_kind<'a>(
     )
 }
 
-// Strengths of a row of macroblocks. Of their kinds, those of all macroblocks of the picture are lent, or none.
+// Strengths of a row of macroblocks. Of their kinds, those of all macroblocks of the picture are lent, or
+// none.
 #[unsafe(no_mangle)]
 pub extern "C" fn deblock_strengths_row<'a>(
     w: usize,

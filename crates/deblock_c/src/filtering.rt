@@ -1,4 +1,5 @@
 // The calls that filter rows of a picture, for C.
+// Kept: (1) flat parameters, numbers for answers and for parts, one function a call: the C interface.
 ghost use Rattle.edges.specs.Picture.{planes};
 ghost use Rattle.pictures.specs.Checks.{lent};
 ghost use Rattle.pictures.specs.Rows.{RowOutcome, WholeOutcome};

@@ -1,4 +1,5 @@
 // The calls that tell which macroblocks are final, for C.
+// Kept: (1) flat parameters, numbers for answers, one function a call: the C interface.
 ghost use Rattle.std.specs.Prelude.{◌≡◌};
 ghost use Rattle.finality.specs.Final.{finality_of, finals_of};
 ghost use Rattle.deblock.specs.Numbers.{size_of};

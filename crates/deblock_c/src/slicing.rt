@@ -1,4 +1,5 @@
 // The calls that are lent a table of slices, for C. They hold the table and do nothing but call.
+// Kept: (1) flat parameters, numbers for answers and for parts, one function a call: the C interface.
 ghost use Rattle.edges.specs.Picture.{planes};
 ghost use Rattle.pictures.specs.Checks.{lent_slices};
 ghost use Rattle.pictures.specs.Rows.{RowOutcome, WholeOutcome};

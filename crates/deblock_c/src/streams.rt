@@ -1,4 +1,5 @@
 // The calls that read and write pictures as streams of YUV4MPEG2, for C.
+// Kept: (1) flat parameters, numbers for answers, one function a call: the C interface.
 ghost use Rattle.y4m.specs.Calls.{LookOutcome, ReadOutcome, LengthOutcome, WriteOutcome};
 ghost use Rattle.deblock.specs.Numbers.{size_of};
 
@@ -25,7 +26,7 @@ pub extern "C" fn deblock_y4m_read(
     deblock::streams::deblock_y4m_read(stream, luma, u, v)
 }
 
-// How long a stream of one picture is.
+// How long a stream of one picture is; 0 where its size is refused.
 #[unsafe(no_mangle)]
 pub extern "C" fn deblock_y4m_length(w: usize, h: usize) -> usize
     ensures { LengthOutcome (size_of w h) result }

@@ -15,8 +15,8 @@ use Rattle.edges.specs.Laid.{base_of, far_of, origin_in, luma_in, chroma_in, lai
 use Rattle.edges.specs.Levels.{chroma_levels, plan_of, luma_by, chroma_by}
 use Rattle.edges.specs.Macroblock.{Settings}
 use Rattle.edges.specs.Picture.{planes, Held, settings_at}
-use Rattle.edges.specs.declared.settings.Layout.{Layout}
-use Rattle.edges.specs.declared.settings.Plan.{Plan}
+use Rattle.edges.specs.declared.plan.Layout.{Layout}
+use Rattle.edges.specs.declared.plan.Plan.{Plan}
 
 module _ (g : Held) (l : Layout) (x y : ℕ) where
   abbrev s : Settings
@@ -37,13 +37,13 @@ module _ (g : Held) (l : Layout) (x y : ℕ) where
 
   -- the three planes, by a plan that a call gave
   pub planned : (luma u v : Plane) {luma₁ u₁ v₁ : Plane} (q : Plan) → q ≡ plan_of g l x y → luma₁ ≡ luma_by g.depth s.strengths q.on q.luma q.levels.luma luma
-      → u₁ ≡ chroma_by g.depth s.strengths q.on q.chroma q.levels.u u → v₁ ≡ chroma_by g.depth s.strengths q.on q.chroma q.levels.v v
+      → u₁ ≡ chroma_by g.depth s.strengths q.on q.chroma q.levels.chroma.u u → v₁ ≡ chroma_by g.depth s.strengths q.on q.chroma q.levels.chroma.v v
       → planes luma₁ u₁ v₁ ≡ laid_mb g l x y (planes luma u v)
   unfolding laid_mb
   planned luma u v q e a b c =
       let m = a ∙ (λ i. luma_by g.depth s.strengths (e i).on (e i).luma (e i).levels.luma luma) ∙ luma-planned luma in
-      let n = b ∙ (λ i. chroma_by g.depth s.strengths (e i).on (e i).chroma (e i).levels.u u) ∙ chroma-planned g.u u in
-      let o = c ∙ (λ i. chroma_by g.depth s.strengths (e i).on (e i).chroma (e i).levels.v v) ∙ chroma-planned g.v v in
+      let n = b ∙ (λ i. chroma_by g.depth s.strengths (e i).on (e i).chroma (e i).levels.chroma.u u) ∙ chroma-planned g.u u in
+      let o = c ∙ (λ i. chroma_by g.depth s.strengths (e i).on (e i).chroma (e i).levels.chroma.v v) ∙ chroma-planned g.v v in
       λ i. record { luma = m i; u = n i; v = o i }
 
 -- ---- a plan's macroblock lies in planes that have room for its row. N is 16 for luma, 8 for chroma

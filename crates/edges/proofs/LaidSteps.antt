@@ -7,7 +7,7 @@ use Rattle.laws.specs.Loop.{up_to, span}
 use Rattle.laws.proofs.Loop.{up_to-same, up_to-flat}
 use Rattle.edges.specs.Laid.{laid_mb, laid_step, laid_row, laid_rows}
 use Rattle.edges.specs.Picture.{Planes, Held}
-use Rattle.edges.specs.declared.settings.Layout.{Layout}
+use Rattle.edges.specs.declared.plan.Layout.{Layout}
 
 module _ (g : Held) (l : Layout) where
   pub laid-index : (x y : ℕ) → x < g.w → (p : Planes) → laid_step g l (y * g.w + x) p ≡ laid_mb g l x y p

@@ -11,7 +11,7 @@ use Rattle.sizes.specs.declared.Part.{Part}
 use Rattle.sizes.specs.declared.Part.TheVariants.{Frame, Field}
 use Rattle.edges.specs.Inner.{SmallWindow}
 use Rattle.edges.specs.Laid.{layout_of}
-use Rattle.edges.specs.declared.settings.Layout.{Layout}
+use Rattle.edges.specs.declared.plan.Layout.{Layout}
 
 pub skip-lt : (part : Part) → bad_parity part ≡ false → (layout_of part).skip < (layout_of part).times
 skip-lt Frame e = omega arith

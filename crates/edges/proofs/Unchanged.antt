@@ -25,7 +25,7 @@ use Rattle.edges.specs.Edge.{LumaRule, ChromaRule, luma_rule, chroma_rule, luma_
 use Rattle.edges.specs.Macroblock.{Settings, after, outer_or, luma_way, chroma_way, luma_both, chroma_both, luma_mb, chroma_mb}
 use Rattle.edges.specs.Inner.{all_zero}
 use Rattle.edges.specs.Laid.{far_of, window_of, luma_in, chroma_in, laid_mb}
-use Rattle.edges.specs.declared.settings.Layout.{Layout}
+use Rattle.edges.specs.declared.plan.Layout.{Layout}
 use Rattle.edges.specs.Picture.{Planes, Held, settings_at, origin_of, luma_of, chroma_of, macroblock_at}
 
 -- ---- an edge

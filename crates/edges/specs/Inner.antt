@@ -2,9 +2,9 @@
 -- callers, and when a macroblock is left at once.
 use Rattle.std.specs.Prelude.{ℕ, ◌+◌, ◌-◌, ◌*◌, ◌<◌, ◌≤◌, ◌≡◌, Bool, true, false, ◌&&◌, eqb}
 use Rattle.laws.specs.Loop.{up_to}
-use Rattle.edges.specs.declared.settings.Layout.{Layout}
-use Rattle.edges.specs.declared.settings.Switches.{Switches}
-use Rattle.edges.specs.declared.settings.Window.{Window}
+use Rattle.edges.specs.declared.plan.Layout.{Layout}
+use Rattle.edges.specs.declared.plan.Switches.{Switches}
+use Rattle.edges.specs.declared.plan.Window.{Window}
 
 -- the lengths of the planes are enough for m macroblocks, those of the QPs, the flags (none, or one each) and
 -- the strengths for n

@@ -8,8 +8,8 @@ use Rattle.sizes.specs.declared.Part.{Part}
 use Rattle.sizes.specs.declared.Part.TheVariants.{Frame, Field}
 use Rattle.edges.specs.Macroblock.{luma_mb, chroma_mb}
 use Rattle.edges.specs.Picture.{Planes, planes, Held, settings_at}
-use Rattle.edges.specs.declared.settings.Layout.{Layout}
-use Rattle.edges.specs.declared.settings.Window.{Window}
+use Rattle.edges.specs.declared.plan.Layout.{Layout}
+use Rattle.edges.specs.declared.plan.Window.{Window}
 
 -- line r of the picture is line times * r + skip of the planes
 abbrev pub layout_of : Part → Layout

@@ -4,9 +4,8 @@ use Rattle.std.specs.Prelude.{ℕ, ℤ}
 use Rattle.lines.specs.Thresholds.{average, chroma_qp}
 use Rattle.lines.specs.Depth.{Depth}
 use Rattle.lines.specs.Inner.{thresholds_of}
-use Rattle.lines.specs.declared.limits.Limits.{Limits}
-use Rattle.lines.specs.declared.limits.Limits.TheVariants.{Filtered, Nothing}
-use Rattle.batches.specs.declared.chroma.Both.{Both}
+use Rattle.batches.specs.Lanes.{as_thresholds}
+use Rattle.batches.specs.declared.lanes.Both.{Both}
 use Rattle.batches.specs.declared.lanes.Four.{Four}
 use Rattle.batches.specs.declared.lanes.Thresholds.{Thresholds}
 use Rattle.laws.specs.Places.{Plane}
@@ -16,22 +15,18 @@ use Rattle.edges.specs.Laid.{window_of}
 use Rattle.edges.specs.Picture.{Held, settings_at}
 use Rattle.edges.specs.declared.levels.Level.{Level}
 use Rattle.edges.specs.declared.levels.PlaneLevels.{PlaneLevels}
-use Rattle.edges.specs.declared.levels.WayLevels.{WayLevels}
 use Rattle.edges.specs.declared.levels.Levels.{Levels}
-use Rattle.edges.specs.declared.settings.Layout.{Layout}
-use Rattle.edges.specs.declared.settings.Plan.{Plan}
-use Rattle.edges.specs.declared.settings.Switches.{Switches}
-use Rattle.edges.specs.declared.settings.Window.{Window}
+use Rattle.edges.specs.declared.levels.WayLevels.{WayLevels}
+use Rattle.edges.specs.declared.plan.Layout.{Layout}
+use Rattle.edges.specs.declared.plan.Plan.{Plan}
+use Rattle.edges.specs.declared.plan.Switches.{Switches}
+use Rattle.edges.specs.declared.plan.Window.{Window}
 
 -- the strengths of an edge's four segments
 abbrev pub four_of : (ℕ → ℕ) → Four
 four_of strengths = record { a = strengths 0; b = strengths 1; c = strengths 2; d = strengths 3 }
 
--- the thresholds of an edge as numbers: where nothing is to be filtered alpha is 0, which leaves each line
-abbrev pub as_thresholds : Limits → Thresholds
-as_thresholds (Filtered alpha beta tc1 tc2 tc3 index) = record { alpha = alpha; beta = beta; index = index }
-as_thresholds Nothing = record { alpha = 0; beta = 0; index = 0 }
-
+-- the thresholds of an edge
 abbrev pub thresholds_by : Depth → Level → Thresholds
 thresholds_by d l = as_thresholds (thresholds_of d l.qp l.a l.b)
 
@@ -45,6 +40,13 @@ luma_level d l = luma_rule d l.a l.b l.qp
 
 abbrev pub chroma_level : Depth → Level → ChromaRule
 chroma_level d l = chroma_rule d l.a l.b l.qp
+
+-- of the edges of one direction, by those of a plane: of its vertical ones, and of its horizontal ones
+abbrev pub vertical_of : PlaneLevels → WayLevels
+vertical_of m = record { border = m.left; inside = m.inner }
+
+abbrev pub horizontal_of : PlaneLevels → WayLevels
+horizontal_of m = record { border = m.top; inside = m.inner }
 
 -- of the left, the top and the inner edges of one plane, by its QPs
 abbrev pub plane_levels : ℤ → ℤ → ℤ → ℤ → ℤ → PlaneLevels
@@ -63,16 +65,8 @@ chroma_levels d qp qp_left qp_above a b offset =
 abbrev pub levels_of : Depth → ℤ → ℤ → ℤ → ℤ → ℤ → ℤ → ℤ → Levels
 levels_of d qp qp_left qp_above a b u v = record {
   luma = plane_levels qp qp_left qp_above a b;
-  u = chroma_levels d qp qp_left qp_above a b u;
-  v = chroma_levels d qp qp_left qp_above a b v;
+  chroma = record { u = chroma_levels d qp qp_left qp_above a b u; v = chroma_levels d qp qp_left qp_above a b v };
 }
-
--- of the vertical and of the horizontal edges
-abbrev pub left_way : PlaneLevels → WayLevels
-left_way m = record { border = m.left; inside = m.inner }
-
-abbrev pub top_way : PlaneLevels → WayLevels
-top_way m = record { border = m.top; inside = m.inner }
 
 -- all that macroblock (x, y) is filtered with, but for its strengths
 abbrev pub plan_of : Held → Layout → ℕ → ℕ → Plan

@@ -1,33 +1,74 @@
 -- The answers of `is_final`, from the three marks that it reads. Assumes nothing.
-use mathlib.Core.Path.{◌≡◌, refl, ap, ◌∙◌}
+use mathlib.Core.Path.{◌≡◌, refl, sym, ap, ◌∙◌}
 use mathlib.Core.Bool.{Bool, true, false, cond, not, ◌&&◌, ◌||◌}
+use Rattle.std.specs.Prelude.{Result, Err}
 use mathlib.Core.List.{List}
-use Prim.Native.Nat.{ℕ, ◌+◌, ◌*◌, ◌<◌}
+use Prim.Native.Nat.{ℕ, ◌+◌, ◌*◌, ◌<◌, ◌≤◌}
 use native.Mathlib.Omega.{arith}
-use borrow.Author.Tests.{eq-eqb, ne_eqb, leb-false}
+use borrow.Author.Tests.{ne_eqb, leb-false, lt-ltb, le-ltb}
 use lib.Dec.{eqb, ltb, leb}
 use lib.ListN.{get_or}
-use Rattle.laws.specs.Refusal.{refusal}
+use Rattle.laws.specs.Refusal.{refusal, or_else}
 use Rattle.laws.proofs.Bools.{or-false, equal}
 use Rattle.laws.proofs.Grid.{index-lt}
-use Rattle.laws.proofs.Refusal.{passes}
+use Rattle.laws.proofs.Refusal.{passes, or-else-kept}
 use Rattle.sizes.proofs.Sized.{Sized, sized}
 use Rattle.sizes.specs.declared.Size.{Size}
+use Rattle.finality.specs.Final.{has_right, has_lower, is_final, bad_asked, place_checks, finality, finality_answered, if_there, joined, finals, all_answered}
 use Rattle.finality.specs.declared.Finality.{Finality}
-use Rattle.finality.specs.Final.{has_right, has_lower, is_final, bad_asked, place_checks, finality}
+use Rattle.finality.specs.declared.Finals.{Finals}
+use Rattle.finality.specs.declared.MadeFinal.{MadeFinal}
+use Rattle.refusals.specs.Refusals.{code_of}
+use Rattle.refusals.specs.declared.Refusal.{Refusal}
+use Rattle.refusals.proofs.Codes.{code-positive}
 
 -- a refusal, and an answer
-pub answer-refused : {n m : ℕ} (b : Bool) → n ≡ m → (n ≡ 0 → ⊥) → ◌≡◌ {A = Finality} (record { number = n; yes = false }) (finality m b)
-answer-refused {n} {m} b e h = λ i. record { number = e i; yes = (false-is ∙ ap (λ (k : ℕ). eqb k 0 && b) e) i }
+pub answer-refused : {m : ℕ} {r : Result Bool Refusal} {e : Refusal} (b : Bool) → r ≡ Err e → code_of e ≡ m → finality_answered r ≡ finality m b
+answer-refused {m} {r} {e} b f k = ap finality_answered f ∙ (λ i. record { number = k i; yes = (false-is ∙ ap (λ (n : ℕ). eqb n 0 && b) k) i })
   where
-    false-is : false ≡ (eqb n 0 && b)
-    false-is = rw (ne_eqb n 0 h)
+    false-is : false ≡ (eqb (code_of e) 0 && b)
+    false-is = rw (ne_eqb (code_of e) 0 (code-positive e))
 
-pub answer-told : {n m : ℕ} {a b : Bool} → n ≡ m → n ≡ 0 → a ≡ b → ◌≡◌ {A = Finality} (record { number = n; yes = a }) (finality m b)
-answer-told {n} {m} {a} {b} e z f = λ i. record { number = e i; yes = (f ∙ same ∙ ap (λ (k : ℕ). eqb k 0 && b) e) i }
-  where
-    same : b ≡ (eqb n 0 && b)
-    same = rw (eq-eqb n 0 z)
+pub answer-told : {m : ℕ} {a b : Bool} → 0 ≡ m → a ≡ b → finality 0 a ≡ finality m b
+answer-told e f = λ i. finality (e i) (f i)
+
+-- ---- three answers as one: the first that refuses, or what all say
+abbrev refused : Refusal → Finality
+refused e = record { number = code_of e; yes = false }
+
+abbrev all_refused : Refusal → Finals
+all_refused e = record { number = code_of e; own = false; left = false; upper = false }
+
+none-told : (e : Refusal) (a b c : Bool) → all_refused e ≡ finals (code_of e) a b c
+none-told e a b c = let z = ne_eqb (code_of e) 0 (code-positive e) in rw z
+
+module _ {r : Result MadeFinal Refusal} (e : Refusal) (k : r ≡ Err e) (f l u : Finality) where
+  pub own-refuses : refused e ≡ f → all_answered r ≡ joined f l u
+  own-refuses h =
+      ap all_answered k
+      ∙ none-told e false l.yes u.yes
+      ∙ ap (λ (n : ℕ). finals n false l.yes u.yes) (sym (or-else-kept (code_of e) (or_else l.number u.number) (code-positive e)))
+      ∙ ap (λ (g : Finality). joined g l u) h
+
+  pub left-refuses : (a : Bool) → finality 0 a ≡ f → refused e ≡ l → all_answered r ≡ joined f l u
+  left-refuses a g h =
+      ap all_answered k
+      ∙ none-told e a false u.yes
+      ∙ ap (λ (n : ℕ). finals n a false u.yes) (sym (or-else-kept (code_of e) u.number (code-positive e)))
+      ∙ (λ i. joined (g i) (h i) u)
+
+  pub upper-refuses : (a b : Bool) → finality 0 a ≡ f → finality 0 b ≡ l → refused e ≡ u → all_answered r ≡ joined f l u
+  upper-refuses a b g h q = ap all_answered k ∙ none-told e a b false ∙ (λ i. joined (g i) (h i) (q i))
+
+pub all-told : {a b c : Bool} {f l u : Finality} → finality 0 a ≡ f → finality 0 b ≡ l → finality 0 c ≡ u → finals 0 a b c ≡ joined f l u
+all-told g h k = λ i. joined (g i) (h i) (k i)
+
+-- .. of a neighbour that is there, or is not
+pub there-told : (n : ℕ) {f g : Finality} → 0 < n → g ≡ f → g ≡ if_there (ltb 0 n) f
+there-told n h e = rw (lt-ltb 0 n h) e
+
+pub none-there : (n : ℕ) {b : Bool} (f : Finality) → n ≤ 0 → b ≡ ltb 0 n → finality 0 b ≡ if_there (ltb 0 n) f
+none-there n f h e = let z = le-ltb 0 n h in rw (e, z)
 
 -- ---- what checks 1, 2 and 4 tell where they pass; `marks` is the number of marks
 pub record Placed (size : Size) (marks x y : ℕ) : Type 0 where

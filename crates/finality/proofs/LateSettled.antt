@@ -30,7 +30,7 @@ of-marked W x y ms m N k o = subst (λ (b : ℕ). Marked ms (b * W + k % (N * W)
 
 module _ (d : Lent) (sound : Sound d) (start first : Planes) (f : Fit d start) (g : Fit d first) where
   -- as in `late`: first is what the planes hold before the first call. Calls lead to `now`, in which the
-  -- question is answered yes, and others on to `end`
+  -- question is finality_answered yes, and others on to `end`
   pub late-settled : {rs later : List At} {said after : List ℕ} {now end : State Planes} {k : ℕ} (x y : ℕ)
       → LateCalls d start (unvisited d first) rs said now → CallsWith (λ j. Lends d start) k now later after end
       → (finality_of d.size now.1 x y).yes ≡ true → Settled d.size.w x y (frame_of (held_of d) d.size.h start) now.0 end.0

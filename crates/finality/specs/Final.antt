@@ -1,7 +1,9 @@
 -- When a macroblock is final, and what the two calls that tell it promise: docs/RULES.md, "Final
 -- macroblocks". The marks are a picture's, a frame's or a field's, as visits set them.
-use Rattle.std.specs.Prelude.{ℕ, ◌+◌, ◌-◌, ◌*◌, ◌<◌, Bool, false, cond, not, ◌&&◌, ◌||◌, List, [], ◌∷◌, ◌++◌, eqb, ltb, length, get_or}
+use Rattle.std.specs.Prelude.{ℕ, ◌+◌, ◌-◌, ◌*◌, ◌<◌, Bool, false, cond, not, ◌&&◌, ◌||◌, List, [], ◌∷◌, ◌++◌, Result, Ok, Err, eqb, ltb, length, get_or}
 use Rattle.laws.specs.Refusal.{refusal, or_else}
+use Rattle.refusals.specs.Refusals.{code_of}
+use Rattle.refusals.specs.declared.Refusal.{Refusal}
 use Rattle.sizes.specs.Sizes.{bad_size, outside_of}
 use Rattle.sizes.specs.declared.Size.{Size}
 use Rattle.visits.specs.AnyOrder.{Visited}
@@ -9,6 +11,7 @@ use Rattle.visits.specs.Checks.{bad_mark}
 use Rattle.visits.specs.Visit.{marked}
 use Rattle.finality.specs.declared.Finality.{Finality}
 use Rattle.finality.specs.declared.Finals.{Finals}
+use Rattle.finality.specs.declared.MadeFinal.{MadeFinal}
 
 -- a macroblock of column x has a right neighbour, one of row y a lower one
 abbrev pub has_right : Size → ℕ → Bool
@@ -46,6 +49,11 @@ pub record Final (size : Size) (ms : List ℕ) (x y : ℕ) : Type 0 where
 abbrev pub finality : ℕ → Bool → Finality
 finality n b = record { number = n; yes = eqb n 0 && b }
 
+-- .. as a call answers it
+abbrev pub finality_answered : Result Bool Refusal → Finality
+finality_answered (Ok b) = finality 0 b
+finality_answered (Err r) = record { number = code_of r; yes = false }
+
 -- ---- is (x, y) final?
 unfoldable pub finality_of : Size → List ℕ → ℕ → ℕ → Finality
 finality_of size ms x y = finality (refusal (final_checks size ms x y)) (is_final size ms x y)
@@ -57,6 +65,11 @@ if_there there f = cond there f (finality 0 false)
 
 abbrev pub finals : ℕ → Bool → Bool → Bool → Finals
 finals n own left upper = record { number = n; own = eqb n 0 && own; left = eqb n 0 && left; upper = eqb n 0 && upper }
+
+-- .. as a call answers it
+abbrev pub all_answered : Result MadeFinal Refusal → Finals
+all_answered (Ok m) = finals 0 m.own m.left m.upper
+all_answered (Err r) = record { number = code_of r; own = false; left = false; upper = false }
 
 abbrev pub joined : Finality → Finality → Finality → Finals
 joined own left upper = finals (or_else own.number (or_else left.number upper.number)) own.yes left.yes upper.yes

@@ -13,7 +13,8 @@ use Rattle.pictures.specs.Checks.{lent_by}
 use Rattle.visits.specs.Promise.{visit_in}
 use Rattle.visits.specs.Visit.{Call, run, answers}
 use Rattle.visits.proofs.EqualOffsets.{one_visit, equal-visit-before}
-use Rattle.interlaced.specs.Both.{Arrival, OfField, of_field, Both, marks_for, stored_for, lent_for, both_visit}
+use Rattle.interlaced.specs.Both.{Arrival, OfField, Both, marks_for, stored_for, lent_for, both_visit}
+use Rattle.interlaced.specs.Inner.{of_field}
 use Rattle.interlaced.specs.Promise.{arrivals, uneven_arrivals, FieldsOutcome}
 
 module _ (size : Size) (o : Offsets) (s q t : List ℕ) (o' : Offsets) (s' q' t' : List ℕ) where

@@ -6,7 +6,8 @@ use Rattle.edges.specs.Cases.{no_offsets}
 use Rattle.sizes.specs.declared.Size.{Size}
 use Rattle.visits.specs.Checks.{early_in}
 use Rattle.visits.specs.Visit.{answer, visit, answers}
-use Rattle.interlaced.specs.Both.{OfField, of_field, unvisited_both, both_visit}
+use Rattle.interlaced.specs.Both.{OfField, unvisited_both, both_visit}
+use Rattle.interlaced.specs.Inner.{of_field}
 
 abbrev one : Size
 one = record { w = 1; h = 1 }

@@ -4,12 +4,9 @@
 use Rattle.std.specs.Prelude.{ℕ, cond, List, [], ◌∷◌, eqb}
 use Rattle.edges.specs.Fields.{taken_out}
 use Rattle.edges.specs.Picture.{Planes, step_of}
-use Rattle.edges.specs.declared.Offsets.{Offsets}
 use Rattle.sizes.specs.declared.Part.TheVariants.{Field}
 use Rattle.sizes.specs.declared.Size.{Size}
-use Rattle.slices.specs.Slicing.{Slicing, single, sliced}
-use Rattle.slices.specs.declared.ChromaOffsets.{ChromaOffsets}
-use Rattle.slices.specs.declared.SliceRecord.{SliceRecord}
+use Rattle.slices.specs.Slicing.{Slicing}
 use Rattle.pictures.specs.Checks.{Lent, lent_by, held_of}
 use Rattle.visits.specs.AnyOrder.{AnyOrderIn}
 use Rattle.visits.specs.Checks.{early_in}
@@ -34,13 +31,6 @@ pub record OfField : Type 0 where
 
 abbrev pub of_field_by : Slicing → List ℕ → List ℕ → List ℕ → OfField
 of_field_by sl s q t = record { slicing = sl; strengths = s; qps = q; t8s = t }
-
--- .. with one pair of offsets; with slices
-abbrev pub of_field : Offsets → List ℕ → List ℕ → List ℕ → OfField
-of_field o = of_field_by (single o)
-
-abbrev pub of_field_slices : ChromaOffsets → List SliceRecord → List ℕ → List ℕ → List ℕ → List ℕ → OfField
-of_field_slices c t ns = of_field_by (sliced c t ns)
 
 -- the frame's planes, and the marks of the top field, of parity 0, and of the bottom field
 pub record Both : Type 0 where

@@ -4,3 +4,4 @@ pub mod BothCalls
 pub mod Promise
 pub mod Inner
 pub mod LateField
+pub mod LentFields

@@ -1,6 +1,10 @@
 // The tables, end to end in one array: alpha at 0, beta at 52, caps at 104, QPC at 364. A cap is tC0 + 1;
-// an index has five, for strengths 0 to 4, of which those of 0 and 4 are 0. They are a static, which is lent:
-// the compiler builds a constant array anew wherever it is used.
+// an index has five, for strengths 0 to 4, of which those of 0 and 4 are 0. They are a static, since the
+// compiler builds a constant array anew wherever it is used.
+// Kept: (1) that an index is below 52 is asked by each lookup: `thresholds_of` of specs/ and `as_thresholds`
+// of `batches` make their structs of a number, and with a type for it they would have to hold its proof. (4)
+// `alpha_at`, `beta_at` and `qpc_at`: one line each. And four tables in one array: apart, each would have a
+// `lent` and an `entry` of its own in place of where it begins.
 ghost use Rattle.std.specs.Prelude.{◌≡◌, ◌<◌, pos, get_or};
 ghost use Rattle.lines.specs.Depth.{eight};
 ghost use Rattle.lines.specs.Tables.{alpha_at, beta_at, tc0_at};
@@ -25,15 +29,7 @@ static TABLES: [u8; 416] = [
     37, 37, 38, 38, 38, 39, 39, 39, 39,
 ];
 
-// All four.
-#[tactic(auto, unfolding(crate::specs::Inner::tables, crate::specs::Tables::alphas, crate::specs::Tables::betas, crate::specs::Tables::tc0s, crate::specs::Tables::qpcs))]
-pub fn all() -> [u8; 416]
-    ensures { result ≡ tables }
-{
-    TABLES
-}
-
-// The same, lent for as long as anyone likes: nothing is made anew.
+// All four, lent for as long as anyone likes.
 #[tactic(auto, unfolding(crate::specs::Inner::tables, crate::specs::Tables::alphas, crate::specs::Tables::betas, crate::specs::Tables::tc0s, crate::specs::Tables::qpcs))]
 pub fn lent() -> &'static [u8; 416]
     ensures { result.now ≡ tables }
@@ -42,60 +38,55 @@ pub fn lent() -> &'static [u8; 416]
 }
 
 // One number of them, whatever i is below 416.
-pub fn entry(t: &[u8; 416], i: usize) -> u8
-    requires t_value { t.now ≡ tables }
-    requires i_bound { i < 416 }
+pub fn entry(i: usize) -> u8
+    requires { i < 416 }
     ensures { result ≡ get_or tables i 0 }
 {
+    let t = lent();
     t[i]
 }
 
 // alpha' and beta' of an index.
 #[tactic(auto, using(crate::proofs::Rulesets::table_parts))]
-pub fn alpha_at(t: &[u8; 416], i: usize) -> u8
-    requires t_value { t.now ≡ tables }
-    requires i_bound { i < 52 }
+pub fn alpha_at(i: usize) -> u8
+    requires { i < 52 }
     ensures { result ≡ alpha_at i }
 {
-    entry(t, i)
+    entry(i)
 }
 
 #[tactic(auto, using(crate::proofs::Rulesets::table_parts))]
-pub fn beta_at(t: &[u8; 416], i: usize) -> u8
-    requires t_value { t.now ≡ tables }
-    requires i_bound { i < 52 }
+pub fn beta_at(i: usize) -> u8
+    requires { i < 52 }
     ensures { result ≡ beta_at i }
 {
-    entry(t, 52 + i)
+    entry(52 + i)
 }
 
 // The cap of a line at index i, by its strength.
 #[tactic(auto, using(crate::proofs::Rulesets::table_parts))]
-pub fn cap_at(t: &[u8; 416], i: usize, s: usize) -> u8
-    requires t_value { t.now ≡ tables }
+pub fn cap_at(i: usize, s: usize) -> u8
     requires i_bound { i < 52 }
     requires s_bound { s < 5 }
     ensures { result ≡ get_or (cap_row eight i) s 0 }
 {
-    entry(t, 104 + (5 * i + s))
+    entry(104 + (5 * i + s))
 }
 
 // tC0 for bS = s + 1.
-pub fn tc0_at(t: &[u8; 416], i: usize, s: usize) -> u8
-    requires t_value { t.now ≡ tables }
+pub fn tc0_at(i: usize, s: usize) -> u8
     requires i_bound { i < 52 }
     requires s_bound { s < 3 }
     ensures { result ≡ tc0_at i s }
 {
-    cap_at(t, i, s + 1) - 1
+    cap_at(i, s + 1) - 1
 }
 
 // QPC of qPI = i.
 #[tactic(auto, using(crate::proofs::Rulesets::table_parts))]
-pub fn qpc_at(t: &[u8; 416], i: usize) -> u8
-    requires t_value { t.now ≡ tables }
-    requires i_bound { i < 52 }
+pub fn qpc_at(i: usize) -> u8
+    requires { i < 52 }
     ensures { pos result ≡ qpc_of (pos i) }
 {
-    entry(t, 364 + i)
+    entry(364 + i)
 }

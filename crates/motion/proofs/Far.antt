@@ -11,19 +11,19 @@ use Rattle.laws.proofs.Cond.{cond_cases}
 use Rattle.motion.specs.Far.{outside}
 
 -- ---- outside m is further than m from 0
-outside-abs : (m : ℕ) (d : ℤ) → outside m d ≡ ltb m (nat_abs d)
+pub outside_abs : (m : ℕ) (d : ℤ) → outside m d ≡ ltb m (nat_abs d)
 unfolding outside
-outside-abs zero (pos k) = simp (le-ltb k 0 zero-le)
-outside-abs (suc m) (pos k) = refl
-outside-abs zero (negsuc j) = sym (lt-ltb 0 (suc j) (omega arith))
-outside-abs (suc m) (negsuc j) = or-false (ltb m j) ∙ sym (leb-suc-suc (suc m) j)
+outside_abs zero (pos k) = simp (le-ltb k 0 zero-le)
+outside_abs (suc m) (pos k) = refl
+outside_abs zero (negsuc j) = sym (lt-ltb 0 (suc j) (omega arith))
+outside_abs (suc m) (negsuc j) = or-false (ltb m j) ∙ sym (leb-suc-suc (suc m) j)
 
 pub outside-self : (m : ℕ) (a : ℤ) → outside m (a -ℤ a) ≡ false
-outside-self m a = outside-abs m (a -ℤ a) ∙ ap (λ (d : ℤ). ltb m (nat_abs d)) (+ℤ_invr a) ∙ le-ltb m 0 zero-le
+outside-self m a = outside_abs m (a -ℤ a) ∙ ap (λ (d : ℤ). ltb m (nat_abs d)) (+ℤ_invr a) ∙ le-ltb m 0 zero-le
 
 pub outside-comm : (m : ℕ) (a b : ℤ) → outside m (a -ℤ b) ≡ outside m (b -ℤ a)
 outside-comm m a b =
-    outside-abs m (a -ℤ b) ∙ ap (ltb m) (sym (abs_neg (a -ℤ b)) ∙ ap nat_abs turned) ∙ sym (outside-abs m (b -ℤ a))
+    outside_abs m (a -ℤ b) ∙ ap (ltb m) (sym (abs_neg (a -ℤ b)) ∙ ap nat_abs turned) ∙ sym (outside_abs m (b -ℤ a))
   where
     turned : neg_ℤ (a -ℤ b) ≡ b -ℤ a
     turned = neg_ℤ-+ℤ a (neg_ℤ b) ∙ ap (λ (z : ℤ). neg_ℤ a +ℤ z) (neg_ℤ-neg_ℤ b) ∙ +ℤ_comm (neg_ℤ a) b
@@ -31,8 +31,8 @@ outside-comm m a b =
 -- within m of 0 is within every more
 pub within_more : {m n : ℕ} → m ≤ n → (d : ℤ) → T (not (outside m d)) → T (not (outside n d))
 within_more {m} {n} h d t =
-    let k = nltb→le m (nat_abs d) (rw (outside-abs m d) at t) in
-    rw (outside-abs n d, le-ltb n (nat_abs d) (omega arith)) tt
+    let k = nltb→le m (nat_abs d) (rw (outside_abs m d) at t) in
+    rw (outside_abs n d, le-ltb n (nat_abs d) (omega arith)) tt
 
 -- ---- the components raised by 32,768: none is negative, and their difference is the same
 pub raised-nonneg : (z : ℤ) → mag z < 2 ^ 15 → T (non_neg (z +ℤ pos 32768))
@@ -55,4 +55,4 @@ abs-dist x (suc y) =
 pub far-law : {x y : ℕ} (m : ℕ) (a b : ℤ) → pos x ≡ a +ℤ pos 32768 → pos y ≡ b +ℤ pos 32768
     → ltb m (dist x y) ≡ outside m (a -ℤ b)
 far-law {x} {y} m a b px py =
-    ap (ltb m) (sym (abs-dist x y) ∙ ap nat_abs ((λ i. px i -ℤ py i) ∙ shift a b (pos 32768))) ∙ sym (outside-abs m (a -ℤ b))
+    ap (ltb m) (sym (abs-dist x y) ∙ ap nat_abs ((λ i. px i -ℤ py i) ∙ shift a b (pos 32768))) ∙ sym (outside_abs m (a -ℤ b))

@@ -1,15 +1,15 @@
 -- Laws of the comparison and of the grids, for the crates above. Assumes nothing.
-use Rattle.std.proofs.Common.{◌≡◌, ℕ, ◌≤◌, Bool, true, false, cond, not, ◌&&◌, ◌||◌, T, List, ◌++◌, ℤ, sym, ap, ◌∙◌, subst, arith, lit≤}
-use mathlib.Core.Bool.{and-false, or_comm}
+use Rattle.std.proofs.Common.{◌≡◌, ℕ, ◌≤◌, Bool, true, false, cond, not, ◌&&◌, ◌||◌, T, ◌++◌, ℤ, int_eq, refl, sym, ap, ◌∙◌, subst, lit≤}
+use mathlib.Core.Bool.{and-false, and_assoc, or_comm}
 use mir.Facts.{and_yes}
+use Rattle.std.proofs.lemmas.Bool.Decides.{Decides-int_eq}
 use Rattle.laws.proofs.Cond.{cond_both}
-use Rattle.motion.specs.Inner.{Hold}
 use Rattle.motion.specs.Motion.{motion0, motion1, is_used, if_used, used, mate, mismatched, differ, inter_strength, equal_motion, same_motion}
 use Rattle.laws.specs.Equal.{eq_z}
 use Rattle.motion.specs.declared.blocks.Blk.{Blk}
 use Rattle.motion.specs.declared.blocks.Motion.{Motion}
 use Rattle.motion.proofs.Differ.{unlike, by-list, by-lists}
-use Rattle.laws.proofs.Equal.{eq_z-self, eq_z→eq, eq_z-comm}
+use Rattle.laws.proofs.Equal.{same_test, eq_z-self, eq_z→eq, eq→eq_z, eq_z-comm}
 use Rattle.motion.proofs.Far.{outside-self, outside-comm}
 
 -- ---- a block and itself
@@ -22,7 +22,22 @@ unlike-self v a = sym (by-list v a a) ∙ simp (mate-self v a, and-false)
 pub differ_self : (v : ℕ) (p : Blk) → differ v p p ≡ false
 differ_self v p = sym (by-lists v p p) ∙ simp (unlike-self v (motion0 p), unlike-self v (motion1 p))
 
--- ---- the same motion
+-- ---- the same motion. What `==` answers at whole numbers, and at what a list holds
+yes : (b : Bool) → T b → b ≡ true
+yes true t = refl
+yes false t = absurd t
+
+int-eq : (x y : ℤ) → int_eq x y ≡ eq_z x y
+int-eq x y =
+    same_test (int_eq x y) (eq_z x y)
+    (λ t. eq→eq_z ((Decides-int_eq x y).0 (yes (int_eq x y) t)))
+    (λ t. subst T (sym ((Decides-int_eq x y).1 (eq_z→eq x y t))) tt)
+
+pub derived_equal : (a b : Motion) → (int_eq a.reference b.reference && (int_eq a.x b.x && int_eq a.y b.y)) ≡ equal_motion a b
+derived_equal a b =
+    (λ i. int-eq a.reference b.reference i && (int-eq a.x b.x i && int-eq a.y b.y i))
+    ∙ sym (and_assoc (eq_z a.reference b.reference) (eq_z a.x b.x) (eq_z a.y b.y))
+
 equal→eq : (a b : Motion) → T (equal_motion a b) → a ≡ b
 equal→eq a b t =
     let h = and_yes (eq_z a.reference b.reference && eq_z a.x b.x) (eq_z a.y b.y) t in
@@ -86,13 +101,3 @@ strength-le v coded p q =
 pub strength-same : (v : ℕ) (coded : Bool) (p q : Blk) → T (same_motion p q) → inter_strength v coded p q ≡ cond coded 2 0
 unfolding inter_strength
 strength-same v coded p q t = simp (differ_same v p q t)
-
--- ---- grids that hold n blocks hold fewer
-pub hold-less : {inter : List ℕ} {ref0 mv0 ref1 mv1 : List ℤ} {m n : ℕ} → Hold inter ref0 mv0 ref1 mv1 n → m ≤ n → Hold inter ref0 mv0 ref1 mv1 m
-hold-less w h =
-    record {
-      inters = omega arith;
-      refs = omega arith;
-      vectors = omega arith;
-      list1 = record { empty = w.list1.empty; full = λ k. omega (arith, w.list1.full k) };
-    }

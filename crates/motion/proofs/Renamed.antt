@@ -13,7 +13,7 @@ renamed_motion f m = record { reference = f m.reference; x = m.x; y = m.y }
 
 abbrev pub renamed_block : (ℤ → ℤ) → Blk → Blk
 renamed_block f b =
-    record { inter = b.inter; ref0 = f b.ref0; mv0x = b.mv0x; mv0y = b.mv0y; ref1 = f b.ref1; mv1x = b.mv1x; mv1y = b.mv1y }
+    record { inter = b.inter; list0 = renamed_motion f b.list0; list1 = renamed_motion f b.list1 }
 
 -- one to one, used ones to used ones
 pub record OneToOne (f : ℤ → ℤ) : Type 0 where

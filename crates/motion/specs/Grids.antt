@@ -39,7 +39,7 @@ motion_at pictures refs mvs i = vector_at (named_by pictures (ref_at refs i)) mv
 
 -- a block of what each list holds
 abbrev pub block_of : Bool → Motion → Motion → Blk
-block_of inter m n = record { inter = inter; ref0 = m.reference; mv0x = m.x; mv0y = m.y; ref1 = n.reference; mv1x = n.x; mv1y = n.y }
+block_of inter m n = record { inter = inter; list0 = m; list1 = n }
 
 -- block i of the grids but nnz, and of all of them
 unfoldable pub block_read : List ℕ → List ℤ → List ℤ → List ℤ → List ℤ → List ℤ → List ℤ → ℕ → Blk

@@ -10,10 +10,10 @@ use Rattle.motion.specs.declared.blocks.Motion.{Motion}
 
 -- ---- what a block holds of list 0 and of list 1
 abbrev pub motion0 : Blk → Motion
-motion0 b = record { reference = b.ref0; x = b.mv0x; y = b.mv0y }
+motion0 b = b.list0
 
 abbrev pub motion1 : Blk → Motion
-motion1 b = record { reference = b.ref1; x = b.mv1x; y = b.mv1y }
+motion1 b = b.list1
 
 -- ---- the references that it uses, with their vectors
 abbrev pub is_used : Motion → Bool

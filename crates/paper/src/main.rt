@@ -2,26 +2,24 @@
 // is written by hand from that section.
 #![tactic(auto)]
 
-use lines::limits::Limits;
-use lines::{limits, planes, tables};
-use motion::blocks::{Blk, bs_inter};
+use lines::limits::{Limits, thresholds};
+use lines::planes;
+use motion::blocks::{Blk, Motion, bs_inter};
 use std::io;
 
 // alpha, beta and the three tC0 at a QP and an offset.
 fn levels(rt: &impl Print, name: &str, qp: i32, offset: i32) -> io::Result<()> {
-    let t = tables::all();
-    let limits = limits::thresholds(&t, qp, offset, offset);
-    let Limits::Filtered {
+    let Some(limits) = thresholds(qp, offset, offset) else {
+        return println!(rt; "{name} nothing to do");
+    };
+    let Limits {
         alpha,
         beta,
         tc1,
         tc2,
         tc3,
-        index,
-    } = limits
-    else {
-        return println!(rt; "{name} nothing to do");
-    };
+        ..
+    } = limits;
     println!(rt; "{name} {alpha} {beta} {tc1} {tc2} {tc3}")
 }
 
@@ -41,16 +39,17 @@ fn chroma(rt: &impl Print, name: &str, bs: u8, tc0: u8, a: u8, b: u8) -> io::Res
     println!(rt; "{name} {p1} {p0} | {q0} {q1}")
 }
 
-// An inter block: of each list a reference, -1 for none, and a horizontal vector.
-fn block(ref0: i32, x0: i16, ref1: i32, x1: i16) -> Blk {
+// What a list holds of a block: a reference, -1 for none, and a horizontal vector.
+fn held(reference: i32, x: i16) -> Motion {
+    Motion { reference, x, y: 0 }
+}
+
+// An inter block.
+fn block(list0: Motion, list1: Motion) -> Blk {
     Blk {
         inter: true,
-        ref0,
-        mv0x: x0,
-        mv0y: 0,
-        ref1,
-        mv1x: x1,
-        mv1y: 0,
+        list0,
+        list1,
     }
 }
 
@@ -61,7 +60,10 @@ fn strength(p: Blk, q: Blk) -> u8 {
 
 // One reference, and vectors that differ by x.
 fn apart(x: i16) -> u8 {
-    strength(block(2, x, -1, 0), block(2, 0, -1, 0))
+    strength(
+        block(held(2, x), Motion::NONE),
+        block(held(2, 0), Motion::NONE),
+    )
 }
 
 fn inter_blocks(rt: &impl Print) -> io::Result<()> {
@@ -72,9 +74,9 @@ fn inter_blocks(rt: &impl Print) -> io::Result<()> {
     println!(rt;
         "P9 one reference, x differences -4 -3 3 4: {wide} {close} {close_too} {wide_too}"
     )?;
-    let exchanged = strength(block(5, 0, 7, 8), block(7, 8, 5, 0));
+    let exchanged = strength(block(held(5, 0), held(7, 8)), block(held(7, 8), held(5, 0)));
     println!(rt; "P10 references 5 7 against 7 5: {exchanged}")?;
-    let twice = strength(block(5, 0, 5, 8), block(5, 8, 5, 4));
+    let twice = strength(block(held(5, 0), held(5, 8)), block(held(5, 8), held(5, 4)));
     println!(rt; "P11 reference 5 twice: {twice}")
 }
 

@@ -11,3 +11,4 @@ pub mod RowBounds
 pub mod RowCalls
 pub mod RowsJoined
 pub mod SomeBad
+pub mod Rulesets

@@ -1,17 +1,11 @@
 -- What a row call knows once its checks have passed, the ways out of it, and that its promise allows one
 -- outcome only. Assumes nothing.
-use mathlib.Core.Path.{◌≡◌, sym, ap, ◌∙◌}
-use mathlib.Core.Logic.{◌≢◌}
-use mathlib.Core.Bool.{Bool, false, cond}
-use mathlib.Core.List.{List}
-use Prim.Native.Nat.{ℕ, ◌*◌, ◌≤◌}
+use Rattle.std.proofs.Common.{◌≡◌, ◌≢◌, ℕ, ◌+◌, ◌*◌, ◌≤◌, ◌<◌, Bool, false, cond, List, eqb, ltb, length, sym, ap, ◌∙◌, arith}
 use native.Mathlib.Nat.{mul-le-mul_right, mul_comm}
-use native.Mathlib.Omega.{arith}
 use borrow.Author.Tests.{ltb-false, ne_eqb}
-use lib.Dec.{eqb, ltb}
-use lib.ListN.{length}
 use Rattle.laws.specs.Refusal.{refusal}
 use Rattle.laws.proofs.Bools.{or-false}
+use Rattle.laws.proofs.Grid.{row_fits}
 use Rattle.laws.proofs.Refusal.{passes}
 use Rattle.edges.specs.Inner.{Room}
 use Rattle.edges.specs.Fields.{Lengths, on_part}
@@ -20,7 +14,8 @@ use Rattle.sizes.specs.Sizes.{frame_of_part}
 use Rattle.sizes.specs.declared.Part.{Part}
 use Rattle.pictures.specs.Checks.{Lent, held_of}
 use Rattle.pictures.specs.Rows.{bad_range, row_checks, row_answer, RowOutcome}
-use Rattle.pictures.proofs.Fitting.{Fitting, fitting}
+use Rattle.pictures.specs.Inner.{GridsHold}
+use Rattle.pictures.proofs.Fitting.{Fitting, fitting, grids-hold}
 
 -- the rows lie in the picture
 pub record RowsFit (part : Part) (d : Lent) (a b ly lu lv : ℕ) : Type 0 where
@@ -54,6 +49,14 @@ module _ (part : Part) (d : Lent) (a b ly lu lv : ℕ) where
           strengths = omega (arith, f.strengths);
         }
 
+    -- row y is one of them
+    module _ (y : ℕ) (h : y < b) where
+      pub row-inside : y * d.size.w + d.size.w ≤ d.size.w * d.size.h
+      row-inside = row_fits y d.size.w d.size.h (omega (arith, h, g.line))
+
+      pub row-small : y * d.size.w + d.size.w ≤ 36864
+      row-small = omega (arith, row-inside, g.fit.sides.most)
+
     pub ends : b * d.size.w ≤ d.size.w * d.size.h
     ends = let k = mul-le-mul_right d.size.w g.line in omega (arith, mul_comm d.size.w d.size.h)
 
@@ -61,6 +64,12 @@ module _ (part : Part) (d : Lent) (a b : ℕ) (p : Planes) where
   pub answered-rows-fit : row_answer part d a b p ≡ 0 → RowsFit part d a b (length p.luma) (length p.u) (length p.v)
   unfolding row_answer
   answered-rows-fit e = checked-rows-fit part d a b (length p.luma) (length p.u) (length p.v) e
+
+  pub answered-grids : row_answer part d a b p ≡ 0 → (m : ℕ) → m ≤ d.size.w * d.size.h → GridsHold m d
+  unfolding row_answer
+  answered-grids e m h =
+      grids-hold part d (length p.luma) (length p.u) (length p.v) m (checked-rows-fit part d a b (length p.luma) (length p.u) (length p.v) e).fit
+      (or-false _ _ (or-false _ _ (passes 4 (row_checks part d a b (length p.luma) (length p.u) (length p.v)) tt e)).1).0 h
 
   -- the lengths that the checks found
   pub answered-lengths : row_answer part d a b p ≡ 0 → Lengths (frame_of_part part (d.size.w * d.size.h)) p

@@ -1,30 +1,22 @@
--- Laws of `some_bad` for a loop from a to b: its start, a turn, its end. Assumes nothing.
-use mathlib.Core.Path.{◌≡◌, sym, ap, ◌∙◌}
-use mathlib.Core.Bool.{Bool, false, not, ◌||◌}
-use mathlib.Core.List.{List}
-use Prim.Native.Nat.{ℕ, ◌+◌, ◌-◌, ◌≤◌, ◌<◌}
-use native.Mathlib.Nat.{le_antisymm}
+-- Laws of `some_bad`, the first of which joins it to a test of the entries from a to b. Assumes nothing.
+use Rattle.std.proofs.Common.{◌≡◌, ℕ, ◌+◌, ◌-◌, ◌≤◌, ◌<◌, Bool, false, not, List, length, drop, get_or, sym, ap, ◌∙◌, arith}
+use Rattle.std.specs.List.{list_any, slice_range}
+use Rattle.std.proofs.lemmas.List.{length-drop, get_or-drop}
 use native.Mathlib.Decide.{dec_lt}
-use native.Mathlib.Omega.{arith}
-use borrow.Author.Rules.{rules}
 use borrow.Author.Tests.{not-true}
-use lib.ListN.{get_or}
-use Rattle.laws.proofs.Some.{some-none, some_more, some-not, every-is, every-not}
+use Rattle.laws.proofs.Some.{some-none, some-not, some_same, some-of, every-is, every-not}
 use Rattle.pictures.specs.Checks.{some_bad}
 
+pub any-some-bad : (bad : ℕ → Bool) (a b : ℕ) (xs : List ℕ) → a ≤ b → b ≤ length xs → list_any bad (slice_range xs a b) ≡ some_bad bad a b xs
+unfolding some_bad
+any-some-bad bad a b xs h k =
+    sym (some-of bad 0 (drop a xs) (b - a) (omega (arith, h, k, length-drop a xs)))
+    ∙ some_same (b - a) _ _ (λ i l. ap bad (get_or-drop a xs i 0))
+
+-- of no entry
 pub some-bad-none : (bad : ℕ → Bool) (a : ℕ) (xs : List ℕ) → false ≡ some_bad bad a a xs
 unfolding some_bad
 some-bad-none bad a xs = let e : a - a ≡ 0 = omega arith in rw e (some-none _)
-
-pub some-bad-more : (bad : ℕ → Bool) (a n : ℕ) (xs : List ℕ) {s t : Bool} → a ≤ n → s ≡ some_bad bad a n xs → t ≡ (s || bad (get_or xs n 0)) → t ≡ some_bad bad a (n + 1) xs
-unfolding some_bad
-some-bad-more bad a n xs h p q =
-    let e : n + 1 - a ≡ n - a + 1 = omega arith in
-    let k : n ≡ a + (n - a) = omega arith in
-    rw e (some_more (n - a) _ p (rw k at q))
-
-pub some-bad-end : (bad : ℕ → Bool) (a n m : ℕ) (xs : List ℕ) {s : Bool} → s ≡ some_bad bad a n xs → n ≤ m → m ≤ n → s ≡ some_bad bad a m xs
-some-bad-end bad a n m xs p h k = rw (le_antisymm h k) at p
 
 -- not found: none is
 pub some-bad-at : (bad : ℕ → Bool) (a b : ℕ) (xs : List ℕ) → some_bad bad a b xs ≡ false → (i : ℕ) → a ≤ i → i < b → bad (get_or xs i 0) ≡ false
@@ -47,5 +39,3 @@ some-bad-join bad a b m c xs h p q = some-bad-is bad a c xs (λ i k l. go i k l 
     go : (i : ℕ) → a ≤ i → i < c → Dec (i < b) → bad (get_or xs i 0) ≡ false
     go i k l (yes d) = some-bad-at bad a b xs p i k d
     go i k l (no d) = some-bad-at bad m c xs q i (omega arith) l
-
-pub ruleset some_bads = (rules, some-bad-none, some-bad-more, some-bad-end)

@@ -1,17 +1,33 @@
--- Apart: no promise to a caller of the public calls rests on it. The checks that calls with slices and calls
--- without share, made by one function: all but those of slices.
-use Rattle.std.specs.Prelude.{ℕ, ◌*◌, Bool, List, ◌++◌, length}
-use Rattle.sizes.specs.declared.Part.{Part}
-use Rattle.sizes.specs.declared.Size.{Size}
-use Rattle.pictures.specs.Checks.{picture_checks, grid_checks, Reads, entry_checks}
-use Rattle.pictures.specs.Rows.{bad_range, row_reads}
+-- Apart: no promise to a caller of the public calls rests on it. What is asked of grids that are read, what
+-- is lent of a macroblock, and the checks of a row call that read grids.
+use Rattle.std.specs.Prelude.{ℕ, ◌*◌, ◌≡◌, ◌≤◌, Bool, false, List, ◌++◌, eqb, length}
+use Rattle.edges.specs.Picture.{Planes}
+use Rattle.slices.specs.Inner.{NumbersHold}
+use Rattle.pictures.specs.Checks.{Lent, Reads, entry_checks, slice_checks}
+use Rattle.pictures.specs.LentData.{given}
+use Rattle.pictures.specs.Rows.{row_reads}
+use Rattle.pictures.specs.declared.Lent.{Lent as DataLent}
 
-abbrev pub shared_checks : Part → Size → Bool → Bool → Bool → ℕ → ℕ → ℕ → List ℕ → List ℕ → List ℕ → Reads → List (ℕ × Bool)
-shared_checks part size outside other six luma u v strengths qps t8s r =
-    picture_checks part size outside luma u v
-    ++ grid_checks (size.w * size.h) (length strengths) (length qps) (length t8s) other six
-    ++ entry_checks qps r
+-- planes have samples for the first n macroblocks
+pub record PlanesHold (n : ℕ) (p : Planes) : Type 0 where
+  pub luma : 256 * n ≤ length p.luma
+  pub u : 64 * n ≤ length p.u
+  pub v : 64 * n ≤ length p.v
 
-abbrev pub shared_row_checks : Part → Size → ℕ → ℕ → Bool → Bool → ℕ → ℕ → ℕ → List ℕ → List ℕ → List ℕ → List (ℕ × Bool)
-shared_row_checks part size a b other six luma u v strengths qps t8s =
-    shared_checks part size (bad_range size a b) other six luma u v strengths qps t8s (row_reads size.w a b strengths t8s)
+-- what is lent has entries for them
+pub record GridsHold (n : ℕ) (d : Lent) : Type 0 where
+  pub strengths : 32 * n ≤ length d.strengths
+  pub qps : n ≤ length d.qps
+  pub t8s : eqb (length d.t8s) 0 ≡ false → n ≤ length d.t8s
+  pub numbers : NumbersHold n d.slicing
+
+-- what is lent of a picture that is w wide: how high it is, is nothing to a macroblock
+abbrev pub given_wide : ℕ → DataLent → Lent
+given_wide w d = given (record { w = w; h = 0 }) d
+
+-- 7, 8, 9, 20 and 21
+abbrev pub row_entry_checks : Lent → ℕ → ℕ → List (ℕ × Bool)
+row_entry_checks d a b = entry_checks d.qps r ++ slice_checks d.slicing r
+  where
+    r : Reads
+    r = row_reads d.size.w a b d.strengths d.t8s

@@ -1,15 +1,29 @@
-// The checks of rows a to b of a picture, shared by the calls with slices and those without.
-ghost use Rattle.std.specs.Prelude.{◌≡◌, false, ◌*◌, ◌≤◌, eqb, length};
+// The checks of rows a to b of a picture.
+// Kept: (1) a and b for a range: calls answer 2 of one that ends before it begins (`bad_range`), and
+// `row_answer` names both; (4) that grids hold what is read is a fact of two values, by one name
+// (`GridsHold`).
+ghost use Rattle.std.specs.Prelude.{◌≡◌, false, ◌*◌, ◌≤◌, ◌++◌, eqb, length};
 ghost use Rattle.laws.specs.Refusal.{refusal};
-ghost use Rattle.pictures.specs.Checks.{entry_checks};
-ghost use Rattle.pictures.specs.Inner.{shared_row_checks};
-ghost use Rattle.pictures.specs.Rows.{qps_from, row_reads};
+ghost use Rattle.edges.specs.LentPlanes.{samples};
+ghost use Rattle.refusals.specs.Refusals.{number_of};
+ghost use Rattle.slices.specs.Inner.{NumbersHold};
+ghost use Rattle.slices.specs.LentSlicing.{slicing_of};
+ghost use Rattle.slices.specs.Slicing.{some_bad_number};
+ghost use Rattle.pictures.specs.Checks.{bad_qp, some_bad};
+ghost use Rattle.pictures.specs.Inner.{GridsHold, row_entry_checks};
+ghost use Rattle.pictures.specs.LentData.{given};
+ghost use Rattle.pictures.specs.Rows.{qps_from, row_answer};
 
-use crate::checks::{any_bad_flag, any_bad_strength, any_over, refuse_grids, refuse_picture};
-use sizes::{Part, Size};
+use crate::Lent;
+use crate::checks::{BadEntries, any_bad_flag, any_bad_strength, check_picture};
+use edges::Planes;
+use refusals::Refusal;
+use sizes::entries::any_bad;
+use sizes::{Picture, Size};
+use slices::Slicing;
 
 // The first macroblock whose QP rows a to b read.
-pub fn qps_from(w: usize, a: usize, b: usize) -> usize
+fn qps_from(w: usize, a: usize, b: usize) -> usize
     requires { a * w ≤ 36864 }
     ensures { result ≡ qps_from w a b }
 {
@@ -19,55 +33,65 @@ pub fn qps_from(w: usize, a: usize, b: usize) -> usize
     a * w
 }
 
-// Checks 7 to 9, of rows a to b.
-fn refuse_row_entries(w: usize, a: usize, b: usize, strengths: &[u8], qps: &[u8], t8s: &[u8]) -> u32
-    requires a_le_b { (a ≤ b) × (b * w ≤ 36864) }
-    requires w_in_bounds { 32 * (b * w) ≤ length strengths.now }
-    requires w_in_bounds_2 { b * w ≤ length qps.now }
-    requires w_in_bounds_3 { eqb (length t8s.now) 0 ≡ false → b * w ≤ length t8s.now }
-    ensures { result ≡ refusal (entry_checks qps.now (row_reads w a b strengths.now t8s.now)) }
+// Check 8, of macroblocks a to b.
+fn any_bad_qp(qps: &[u8], a: usize, b: usize) -> bool
+    requires { (a ≤ b) × (b ≤ length qps.now) }
+    ensures { result ≡ some_bad bad_qp a b qps.now }
 {
-    let first = a * w;
-    let last = b * w;
-    if any_bad_flag(t8s, first, last) {
-        return 7;
-    }
-    if any_over(qps, qps_from(w, a, b), last, 51) {
-        return 8;
-    }
-    if any_bad_strength(strengths, first, last) {
-        return 9;
-    }
-    0
+    any_bad(&qps[a..b], |qp| 51 < qp)
 }
 
-// All checks of rows a to b but those of slices; luma, u, v are the lengths of the planes. `other`: a grid of
-// slices has the wrong length; `six`: check 6 applies.
-pub fn refuse_rows(
-    part: Part,
-    size: Size,
-    a: usize,
-    b: usize,
-    other: bool,
-    six: bool,
-    luma: usize,
-    u: usize,
-    v: usize,
-    strengths: &[u8],
-    qps: &[u8],
-    t8s: &[u8],
-) -> u32
-    ensures { result ≡ refusal (shared_row_checks part size a b other six luma u v strengths.now qps.now t8s.now) }
+// Check 20, of macroblocks a to b: a number is past the table. Kept: (4) beside `bad_numbers` of visits, with
+// the reason there.
+fn any_bad_number(slicing: &Slicing<'_>, a: usize, b: usize) -> bool
+    requires { (a ≤ b) × NumbersHold b (slicing_of slicing.now) }
+    ensures { result ≡ some_bad_number (slicing_of slicing.now) (λ bad xs. some_bad bad a b xs) }
+{
+    match slicing {
+        Slicing::Single(_) => false,
+        Slicing::Table {
+            records,
+            numbers,
+            ..
+        } => {
+            let count = records.len();
+            any_bad(&numbers[a..b], |number| count <= usize::from(number))
+        }
+    }
+}
+
+// Checks 7 to 9, 20 and 21, of rows a to b.
+fn check_row_entries(size: Size, a: usize, b: usize, lent: &Lent<'_>) -> Result<(), Refusal>
+    requires rows { (a ≤ b) × (b * size.w ≤ 36864) }
+    requires grids { GridsHold (b * size.w) (given size lent.now) }
+    ensures { number_of result ≡ refusal (row_entry_checks (given size lent.now) a b) }
 {
     let w = size.w;
-    let h = size.h;
-    let k = refuse_picture(part, size, (b < a) | (h < b), luma, u, v);
-    if k != 0 {
-        return k;
-    }
-    let m = refuse_grids(w * h, strengths.len(), qps.len(), t8s.len(), other, six);
-    if m != 0 {
-        return m;
-    }
-    refuse_row_entries(w, a, b, strengths, qps, t8s)
+    let first = a * w;
+    let last = b * w;
+    let read_from = qps_from(w, a, b);
+    let bad = BadEntries {
+        flag: any_bad_flag(lent.grids.t8s, first, last),
+        qp: any_bad_qp(lent.grids.qps, read_from, last),
+        strength: any_bad_strength(lent.grids.strengths, first, last),
+        number: any_bad_number(&lent.slicing, read_from, last),
+        mode: lent.slicing.has_bad_mode(),
+    };
+    bad.check()
+}
+
+// All checks of rows a to b.
+pub fn check_rows(
+    picture: Picture,
+    a: usize,
+    b: usize,
+    planes: &Planes<'_>,
+    lent: &Lent<'_>,
+) -> Result<(), Refusal>
+    ensures { number_of result ≡ row_answer picture.part (given picture.size lent.now) a b (samples planes.now) }
+{
+    let size = picture.size;
+    check_picture(picture, (b < a) | (size.h < b), planes)?;
+    lent.check_grids(size.count(), false)?;
+    check_row_entries(size, a, b, lent)
 }

@@ -1,66 +1,46 @@
-// The two calls that filter rows of a picture, which is a frame or a field of one: `size` is the picture's,
-// the planes are the frame's. Neither asks anything of its caller; a refusal changes no byte.
-ghost use Rattle.edges.specs.Picture.{planes};
-ghost use Rattle.pictures.specs.Checks.{lent};
+// The two calls that filter rows of a picture, which is a frame or a field of one; the planes are the
+// frame's. Neither asks anything of its caller; a refusal changes no byte.
+ghost use Rattle.edges.specs.LentPlanes.{samples, SamePlanes};
+ghost use Rattle.refusals.specs.Refusals.{number_of};
+ghost use Rattle.pictures.specs.LentData.{given};
 ghost use Rattle.pictures.specs.Rows.{RowOutcome, WholeOutcome};
 
-use crate::row_checks::refuse_rows;
-use edges::Offsets;
-use edges::picture::{every_edge, rows};
-use sizes::{Part, Size};
-use slices::rules::bad_offsets;
+use crate::Lent;
+use crate::macroblocks::filter_row;
+use crate::row_checks::check_rows;
+use edges::Planes;
+use refusals::Refusal;
+use sizes::Picture;
 
-// Rows a to b, of which b is not one. They read what lies in them, and the QPs of the row before them.
+// Rows a to b, of which b is not one. They read what lies in them, and the QPs and slice numbers of the row
+// before them. Kept: (1) a and b for a range: `RowOutcome` names both, and answers 2 where it ends before it
+// begins; (4) y is a row's number, by which no slice is indexed.
+#[tactic(auto, using(crate::proofs::Rulesets::rows_of_part), unfolding(edges::specs::Laid::laid_rows))]
 pub fn filter_rows(
-    size: Size,
-    part: Part,
+    picture: Picture,
     a: usize,
     b: usize,
-    o: Offsets,
-    luma: &mut [u8],
-    u: &mut [u8],
-    v: &mut [u8],
-    strengths: &[u8],
-    qps: &[u8],
-    t8s: &[u8],
-) -> u32
-    ensures { RowOutcome part (lent size o strengths.now qps.now t8s.now) a b (planes luma.old u.old v.old) result (planes luma.new u.new v.new) }
+    planes: &mut Planes<'_>,
+    lent: &Lent<'_>,
+) -> Result<(), Refusal>
+    ensures same { SamePlanes planes.old planes.new }
+    ensures outcome { RowOutcome picture.part (given picture.size lent.now) a b (samples planes.old) (number_of result) (samples planes.new) }
 {
-    let n = refuse_rows(
-        part,
-        size,
-        a,
-        b,
-        false,
-        bad_offsets(o),
-        luma.len(),
-        u.len(),
-        v.len(),
-        strengths,
-        qps,
-        t8s,
-    );
-    if n != 0 {
-        return n;
+    check_rows(picture, a, b, planes, lent)?;
+    for y in a..b {
+        filter_row(picture, y, planes, lent);
     }
-    let on = every_edge();
-    rows(luma, u, v, part, size, a, b, qps, t8s, strengths, o, on);
-    0
+    Ok(())
 }
 
 // A whole picture.
 pub fn filter_whole(
-    size: Size,
-    part: Part,
-    o: Offsets,
-    luma: &mut [u8],
-    u: &mut [u8],
-    v: &mut [u8],
-    strengths: &[u8],
-    qps: &[u8],
-    t8s: &[u8],
-) -> u32
-    ensures { WholeOutcome part (lent size o strengths.now qps.now t8s.now) (planes luma.old u.old v.old) result (planes luma.new u.new v.new) }
+    picture: Picture,
+    planes: &mut Planes<'_>,
+    lent: &Lent<'_>,
+) -> Result<(), Refusal>
+    ensures same { SamePlanes planes.old planes.new }
+    ensures outcome { WholeOutcome picture.part (given picture.size lent.now) (samples planes.old) (number_of result) (samples planes.new) }
 {
-    filter_rows(size, part, 0, size.h, o, luma, u, v, strengths, qps, t8s)
+    filter_rows(picture, 0, picture.size.h, planes, lent)
 }

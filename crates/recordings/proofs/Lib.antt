@@ -3,4 +3,3 @@ pub mod Refused
 pub mod Slices
 pub mod Turns
 pub mod Verdict
-pub mod Whole

@@ -6,7 +6,6 @@ use mathlib.Core.List.{List, [], ◌∷◌}
 use mathlib.Core.Logic.{◌↔◌}
 use native.Mathlib.Omega.{arith}
 use lib.ListN.{length, get_or}
-use Rattle.laws.specs.Some.{every}
 use Rattle.edges.specs.Picture.{Planes, planes}
 use Rattle.recordings.specs.Bytes.{ones}
 use Rattle.recordings.specs.Orders.{visited_all}
@@ -40,5 +39,4 @@ abbrev Visited : (List ℕ → List ℕ → Bool) → Type 0
 Visited f = (marks marks₂ : List ℕ) → f marks marks₂ ≡ visited_all marks marks₂
 
 pub top-alone : (f : List ℕ → List ℕ → Bool) → Visited f → ((marks marks₂ : List ℕ) → ones marks ≡ true → f marks marks₂ ≡ true) → ⊥
-unfolding every
 top-alone f says alike = false≢true (sym (says (1 ∷ []) (0 ∷ [])) ∙ alike (1 ∷ []) (0 ∷ []) refl)

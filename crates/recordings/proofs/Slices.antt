@@ -1,52 +1,37 @@
--- A table of slices in bytes: its length, and the record of a number. Assumes nothing.
-use Prim.Native.Nat.{ℕ, zero, suc, ◌+◌, ◌<◌, ◌≤◌}
+-- A table of slices by its bytes: the records of the chunks of three. Assumes nothing.
+use Prim.Native.Nat.{ℕ, zero, suc, ◌+◌, ◌*◌}
 use mathlib.Core.Path.{◌≡◌, refl, sym, ap, ◌∙◌}
-use mathlib.Core.Bool.{Bool}
-use mathlib.Core.List.{List}
-use native.Mathlib.Nat.{le_of_suc-le-suc, not-suc-le-zero}
+use mathlib.Core.List.{List, ◌∷◌}
 use native.Mathlib.Omega.{arith}
-use lib.ListN.{length, get_or}
-use Rattle.laws.specs.Some.{some}
-use Rattle.slices.specs.Inner.{surveyed, survey_of}
-use Rattle.slices.specs.Table.{no_record, record_of, bad_pair, bad_mode, some_bad_pair, some_bad_mode}
-use Rattle.recordings.specs.Slices.{record_at, records_from, table_read}
+use Rattle.std.proofs.Common.{get_or-take, get_or-drop, get_or, map, take, drop}
+use Rattle.std.specs.Simd.{first_chunks}
+use Rattle.slices.specs.declared.SliceRecord.{SliceRecord}
+use Rattle.recordings.specs.Slices.{signed_of, record_at, records_from, table_read}
 
-module _ (rs : List ℕ) where
-  length_from : (k n : ℕ) → length (records_from rs k n) ≡ n
-  unfolding records_from
-  length_from k zero = refl
-  length_from k (suc n) = ap suc (length_from (k + 1) n)
+same-record : {a b c d e f : ℕ} → a ≡ d → b ≡ e → c ≡ f
+    → ◌≡◌ {A = SliceRecord} (record { mode = a; a = signed_of b; b = signed_of c }) (record { mode = d; a = signed_of e; b = signed_of f })
+same-record p q r = λ j. record { mode = p j; a = signed_of (q j); b = signed_of (r j) }
 
-  inside-from : (k n i : ℕ) → i < n → get_or (records_from rs k n) i no_record ≡ record_at rs (k + i)
-  unfolding records_from
-  inside-from k zero i h = absurd (not-suc-le-zero h)
-  inside-from k (suc n) zero h = ap (record_at rs) (omega arith)
-  inside-from k (suc n) (suc i) h = inside-from (k + 1) n i (le_of_suc-le-suc h) ∙ ap (record_at rs) (omega arith)
+-- the first chunk's record
+front : (xs : List ℕ) → record_at (take 3 xs) 0 ≡ record_at xs 0
+front xs = same-record (get_or-take 3 xs 0 0 (omega arith)) (get_or-take 3 xs 1 0 (omega arith)) (get_or-take 3 xs 2 0 (omega arith))
 
-  past-from : (k n i : ℕ) → n ≤ i → get_or (records_from rs k n) i no_record ≡ no_record
-  unfolding records_from
-  past-from k zero i h = refl
-  past-from k (suc n) zero h = absurd (not-suc-le-zero h)
-  past-from k (suc n) (suc i) h = past-from (k + 1) n i (le_of_suc-le-suc h)
+-- past the first chunk the next record is the first
+past : (xs : List ℕ) (k : ℕ) → record_at (drop 3 xs) k ≡ record_at xs (k + 1)
+past xs k =
+    let at : (i j : ℕ) → 3 + i ≡ j → get_or (drop 3 xs) i 0 ≡ get_or xs j 0 = λ i j e. get_or-drop 3 xs i 0 ∙ ap (λ (m : ℕ). get_or xs m 0) e in
+    same-record (at (3 * k) (3 * (k + 1)) (omega arith)) (at (3 * k + 1) (3 * (k + 1) + 1) (omega arith)) (at (3 * k + 2) (3 * (k + 1) + 2) (omega arith))
 
-  pub table-length : (n : ℕ) → length (table_read n rs) ≡ n
-  unfolding table_read
-  table-length n = length_from 0 n
+records-past : (xs : List ℕ) (k n : ℕ) → records_from (drop 3 xs) k n ≡ records_from xs (k + 1) n
+unfolding records_from
+records-past xs k zero = refl
+records-past xs k (suc n) = λ j. past xs k j ∷ records-past xs (k + 1) n j
 
-  pub inside : (n i : ℕ) → i < n → record_at rs i ≡ record_of (table_read n rs) i
-  unfolding table_read
-  inside n i h = sym (inside-from 0 n i h ∙ ap (record_at rs) (omega arith))
+chunks-from : (n : ℕ) (xs : List ℕ) → map (λ (b : List ℕ). record_at b 0) (first_chunks 3 n xs) ≡ records_from xs 0 n
+unfolding records_from
+chunks-from zero xs = refl
+chunks-from (suc n) xs = λ j. front xs j ∷ (chunks-from n (drop 3 xs) ∙ records-past xs 0 n) j
 
-  pub past : (n i : ℕ) → n ≤ i → no_record ≡ record_of (table_read n rs) i
-  unfolding table_read
-  past n i h = sym (past-from 0 n i h)
-
-  -- what a table comes to, by the loop over its records
-  pub all_seen : (n k : ℕ) (a b : Bool) → let table = table_read n rs in
-      k ≡ n → a ≡ some n (λ i. bad_pair (record_of table i)) → b ≡ some n (λ i. bad_mode (record_of table i)) → surveyed k a b ≡ survey_of table
-  unfolding some_bad_pair some_bad_mode
-  all_seen n k a b p q r =
-      let e = sym (table-length n) in
-      let f : ℕ → Bool = λ i. bad_pair (record_of (table_read n rs) i) in
-      let g : ℕ → Bool = λ i. bad_mode (record_of (table_read n rs) i) in
-      λ j. surveyed ((p ∙ e) j) ((q ∙ ap (λ (m : ℕ). some m f) e) j) ((r ∙ ap (λ (m : ℕ). some m g) e) j)
+pub chunks : (n : ℕ) (xs : List ℕ) → map (λ (b : List ℕ). record_at b 0) (first_chunks 3 n xs) ≡ table_read n xs
+unfolding table_read
+chunks n xs = chunks-from n xs

@@ -2,9 +2,8 @@
 -- nothing.
 use Prim.Native.Nat.{ℕ}
 use mathlib.Core.Path.{◌≡◌, sym, ap, subst, ◌∙◌}
-use mathlib.Core.Bool.{Bool, true, false, not}
+use mathlib.Core.Bool.{Bool, true, false}
 use mathlib.Core.List.{List}
-use borrow.Author.Tests.{not-true, not-false}
 use Rattle.edges.specs.Picture.{Planes}
 use Rattle.sizes.specs.declared.Part.{Part}
 use Rattle.sizes.specs.declared.Part.TheVariants.{Field}
@@ -34,29 +33,28 @@ whole o = rw (← o.says) o.leaves
 module _ (r : Recording) {part : Part} (e : part ≡ first_part r.two) where
   -- in a turn
   module _ (way : Way) (t : ℕ) (p : Planes) (m m₂ : List ℕ) {p' : Planes} {m' : List ℕ} (a : (p', m') ≡ turn_of way false part r.first r.n t (p, m)) where
-    pub one-turn : not r.two ≡ true → (p', m', m₂) ≡ turn_in way r t (p, m, m₂)
+    pub one-turn : r.two ≡ false → (p', m', m₂) ≡ turn_in way r t (p, m, m₂)
     unfolding turn_in
-    one-turn h = let f = not-true r.two h in rw (f, ← rw f at e, ← a)
+    one-turn h = rw (h, ← rw h at e, ← a)
 
-    pub two-turns : {p'' : Planes} {m₂' : List ℕ} → not r.two ≡ false → (p'', m₂') ≡ turn_of way true (Field 1) r.second r.n t (p', m₂)
+    pub two-turns : {p'' : Planes} {m₂' : List ℕ} → r.two ≡ true → (p'', m₂') ≡ turn_of way true (Field 1) r.second r.n t (p', m₂)
         → (p'', m', m₂') ≡ turn_in way r t (p, m, m₂)
     unfolding turn_in
-    two-turns h b = let f = not-false r.two h in rw (f, ← rw f at e, ← a, ← b)
+    two-turns h b = rw (h, ← rw h at e, ← a, ← b)
 
   -- as wholes
   module _ (p : Planes) {p' : Planes} (a : p' ≡ whole_of part r.first p) where
     first : {x : Part} → part ≡ x → p' ≡ whole_of x r.first p
     first q = subst (λ (y : Part). p' ≡ whole_of y r.first p) q a
 
-    pub one-whole : not r.two ≡ true → p' ≡ wholes r p
+    pub one-whole : r.two ≡ false → p' ≡ wholes r p
     unfolding wholes
-    one-whole h = let f = not-true r.two h in rw f (first (rw f at e))
+    one-whole h = rw h (first (rw h at e))
 
-    pub two-wholes : {p'' : Planes} → not r.two ≡ false → p'' ≡ whole_of (Field 1) r.second p' → p'' ≡ wholes r p
+    pub two-wholes : {p'' : Planes} → r.two ≡ true → p'' ≡ whole_of (Field 1) r.second p' → p'' ≡ wholes r p
     unfolding wholes
     two-wholes h b =
-        let f = not-false r.two h in
-        rw f (b ∙ ap (whole_of (Field 1) r.second) (first (rw f at e)))
+        rw h (b ∙ ap (whole_of (Field 1) r.second) (first (rw h at e)))
 
 -- a frame has no second turn: its turn is a visit, and no more
 pub turn-of-frame : (way : Way) (r : Recording) (t : ℕ) (s : WithMarks) → r.two ≡ false → turn_in way r t s

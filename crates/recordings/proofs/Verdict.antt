@@ -10,7 +10,7 @@ use borrow.Author.Tests.{eq-eqb}
 use lib.ListN.{length, take, replicate, length-replicate}
 use Rattle.laws.proofs.Bools.{and-true}
 use Rattle.edges.specs.Picture.{Planes, planes}
-use Rattle.recordings.specs.Bytes.{zeros, copied, ones}
+use Rattle.recordings.specs.Bytes.{zeros, copied}
 use Rattle.recordings.specs.Orders.{Recording, frames_of, second_of, most_of, WithMarks, filtered, visited_all, Becomes, start_of, ComesOut}
 use Rattle.recordings.specs.Ways.{is_whole}
 use Rattle.recordings.specs.declared.ways.Way.{Way}
@@ -34,11 +34,11 @@ module _ {y u v y' u' v' : List ℕ} where
       )
 
 -- the tests of a way
-pub becomes : {way : Way} {r : Recording} {s t : WithMarks} {after : Planes} (v w w₂ m : Bool) → t ≡ filtered way r s → v ≡ is_whole way
-    → w ≡ ones t.1 → w₂ ≡ ones t.2 → (m ≡ true) ↔ (t.0 ≡ after) → (((v || (w && w₂)) && m) ≡ true) ↔ Becomes way r s after
-becomes {way} {r} {s} {t} {after} v w w₂ m e p q q₂ k =
-    let visits : (v || (w && w₂)) ≡ (is_whole way || visited_all (filtered way r s).1 (filtered way r s).2) = rw (q, q₂, p, e) in (
-      λ h. let b = and-true (v || (w && w₂)) m h in record { visited = sym visits ∙ b.0; out = sym (ap (λ (x : WithMarks). x.0) e) ∙ k.0 b.1 },
+pub becomes : {way : Way} {r : Recording} {s t : WithMarks} {after : Planes} (v w m : Bool) → t ≡ filtered way r s → v ≡ is_whole way
+    → w ≡ visited_all t.1 t.2 → (m ≡ true) ↔ (t.0 ≡ after) → (((v || w) && m) ≡ true) ↔ Becomes way r s after
+becomes {way} {r} {s} {t} {after} v w m e p q k =
+    let visits : (v || w) ≡ (is_whole way || visited_all (filtered way r s).1 (filtered way r s).2) = rw (q, p, e) in (
+      λ h. let b = and-true (v || w) m h in record { visited = sym visits ∙ b.0; out = sym (ap (λ (x : WithMarks). x.0) e) ∙ k.0 b.1 },
       λ h. rw (visits ∙ h.visited, k.1 (ap (λ (x : WithMarks). x.0) e ∙ h.out)),
     )
 

@@ -29,9 +29,9 @@ module _ (size : Size) (field : Bool) (g : Grids) (t8s : List ℕ) where
   abbrev pub derived_to : ℕ → List ℕ → List ℕ
   derived_to n s = up_to n derived_at s
 
--- what is left of the strengths s, and what an answer `true` says
+-- what is left of the strengths s, and what the answer says: whether no call was refused
 pub record DerivedAll (size : Size) (field : Bool) (g : Grids) (t8s : List ℕ) (n : ℕ) (s : List ℕ) (r : Bool) (s' : List ℕ) : Type 0 where
-  pub all : r ≡ true → every n (served_at size t8s g (length s)) ≡ true
+  pub all : r ≡ every n (served_at size t8s g (length s))
   pub leaves : s' ≡ derived_to size field g t8s n s
 
 -- .. of grids that were read from a file, with tables that are lent: no contract can say which grids they

@@ -5,18 +5,13 @@ use Rattle.laws.specs.Loop.{up_to}
 use Rattle.edges.specs.Fields.{on_part}
 use Rattle.edges.specs.Picture.{Planes, planes, rows_of}
 use Rattle.sizes.specs.declared.Part.{Part}
-use Rattle.sizes.specs.declared.Size.{Size}
 use Rattle.sizes.specs.declared.Part.TheVariants.{Frame, Field}
-use Rattle.slices.specs.declared.ChromaOffsets.{ChromaOffsets}
-use Rattle.pictures.specs.Checks.{Lent, lent, lent_slices, held_of}
+use Rattle.pictures.specs.Checks.{Lent, held_of}
 use Rattle.pictures.specs.Rows.{row_answer}
 use Rattle.visits.specs.Promise.{visit_in}
 use Rattle.visits.specs.Visit.{State}
 use Rattle.recordings.specs.Bytes.{zeros, copied, ones}
-use Rattle.recordings.specs.Slices.{table_read}
 use Rattle.recordings.specs.Ways.{is_whole, request_of, turns_of}
-use Rattle.recordings.specs.declared.both.Shape.{Shape}
-use Rattle.recordings.specs.declared.given.Given.{Given}
 use Rattle.recordings.specs.declared.orders.Verdicts.{Verdicts}
 use Rattle.recordings.specs.declared.ways.Way.{Way}
 use Rattle.recordings.specs.declared.ways.Way.TheVariants.{Whole, Raster, Reverse, Leaps}
@@ -28,18 +23,6 @@ pub record Recording : Type 0 where
   pub two : Bool
   pub first : Lent
   pub second : Lent
-
--- what is lent of a picture by what it is given: with slices, rs the bytes of their table and ns the numbers,
--- or by one pair of offsets
-abbrev pub chroma_lent : Given → ChromaOffsets
-chroma_lent g = record { u = g.o.chroma_u; v = g.o.chroma_v }
-
-abbrev pub lent_in : Size → Given → List ℕ → List ℕ → List ℕ → List ℕ → List ℕ → Lent
-lent_in size g rs ns s q t = cond g.sliced (lent_slices size (chroma_lent g) (table_read g.count rs) ns s q t) (lent size g.o s q t)
-
-abbrev pub recording : Shape → List ℕ → List ℕ → List ℕ → List ℕ → List ℕ → List ℕ → List ℕ → List ℕ → List ℕ → List ℕ → Recording
-recording h rs ns s q t rs₂ ns₂ s₂ q₂ t₂ =
-    record { n = h.n; two = h.two; first = lent_in h.size h.first rs ns s q t; second = lent_in h.size h.second rs₂ ns₂ s₂ q₂ t₂ }
 
 -- the first picture is the frame, or its top field: the even lines
 abbrev pub first_part : Bool → Part

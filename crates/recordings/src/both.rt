@@ -1,35 +1,45 @@
 // The pictures of a recording: one, the frame, or two, its fields. What is made of both, one after the other.
-// The planes are the frame's; each picture has what it is given, a table of slices rs, slice numbers ns,
-// strengths s, QPs q, 8x8 flags t and marks, those of the second end in 2.
+// Kept: (1) a way as an enum, as in ways.rt; (1) whether there are two pictures as a flag, and the number of
+// macroblocks beside the size: `Recording`, `most_of`, `frames_of` and `first_part` of specs/Orders have them
+// so; (4) that a turn is below 14400 is asked where one is made: `turns` promises it of the loop's counter,
+// and a type for it would be made in each turn.
 ghost use Rattle.std.specs.Prelude.{◌≡◌, ◌<◌, ◌≤◌};
-ghost use Rattle.edges.specs.Picture.{planes};
-ghost use Rattle.recordings.specs.Orders.{lent_in, recording, first_part, frames_of, most_of, turn_of, turn_in, whole_of, wholes};
+ghost use Rattle.edges.specs.LentPlanes.{samples, SamePlanes};
+ghost use Rattle.pictures.specs.LentData.{given};
+ghost use Rattle.recordings.specs.Orders.{first_part, frames_of, most_of, turn_of, turn_in, whole_of, wholes};
+ghost use Rattle.recordings.specs.Tried.{recording, tried, SameTried};
 
-use crate::given::{Given, visit_sliced, whole_sliced};
-use crate::grids::{column, row};
-use crate::ways::{Way, place};
+use crate::places::{column, row};
+use crate::ways::Way;
+use edges::Planes;
+use pictures::Lent;
 use pictures::rows::filter_whole;
-use sizes::{Part, Size};
+use sizes::{Part, Picture, Size};
 use visits::visits::visit;
 
-// Size, number of macroblocks and what each picture is given, and whether there are two.
-#[derive(Clone, Copy)]
-pub struct Shape {
+// A recording: the size and the number of macroblocks of a picture, what is lent of the frame or of the top
+// field, and of the bottom field where there are two.
+#[derive(Clone, Copy, Debug, PartialEq, Eq)]
+pub struct Recorded<'a> {
     pub size: Size,
     pub n: usize,
-    pub two: bool,
-    pub first: Given,
-    pub second: Given,
+    pub first: Lent<'a>,
+    pub second: Option<Lent<'a>>,
+}
+
+// The frame's planes as they are filtered anew, and the marks of each picture.
+#[derive(Drop)]
+pub struct Tried<'a> {
+    pub planes: Planes<'a>,
+    pub first: &'a mut [u8],
+    pub second: &'a mut [u8],
 }
 
 // The most macroblocks that a picture may have: a frame has 120 at most.
 pub fn most(two: bool) -> usize
     ensures { result ≡ most_of two }
 {
-    if two {
-        return 60;
-    }
-    120
+    if two { 60 } else { 120 }
 }
 
 // The frame's macroblocks.
@@ -38,142 +48,88 @@ pub fn frames(two: bool, n: usize) -> usize
     ensures lower_bound { (n ≤ result) × (result ≤ 120) }
     ensures value { result ≡ frames_of two n }
 {
-    if two {
-        return 2 * n;
-    }
-    n
+    if two { 2 * n } else { n }
 }
 
 fn first_part(two: bool) -> Part
     ensures { result ≡ first_part two }
 {
-    if two {
-        return Part::Field(0);
-    }
-    Part::Frame
+    if two { Part::Field(0) } else { Part::Frame }
 }
 
-// A visit of one picture, in turn k.
+// A visit of one picture, in turn k. Kept: (4) what a turn is told of is no one thing: which visit (way, k,
+// ahead), of which picture (part, lent), and what is filtered.
 fn turn(
     way: Way,
     k: usize,
     ahead: bool,
-    h: Shape,
+    recorded: &Recorded<'_>,
     part: Part,
-    g: Given,
-    luma: &mut [u8],
-    u: &mut [u8],
-    v: &mut [u8],
-    rs: &[u8],
-    ns: &[u16],
-    s: &[u8],
-    q: &[u8],
-    t: &[u8],
+    lent: &Lent<'_>,
+    planes: &mut Planes<'_>,
     marks: &mut [u8],
 )
     requires { k < 14400 }
-    ensures { (planes luma.new u.new v.new, marks.new) ≡ turn_of way ahead part (lent_in h.size g rs.now ns.now s.now q.now t.now) h.n k (planes luma.old u.old v.old, marks.old) }
+    ensures same { SamePlanes planes.old planes.new }
+    ensures is { (samples planes.new, marks.new) ≡ turn_of way ahead part (given recorded.now.size lent.now) recorded.now.n k (samples planes.old, marks.old) }
 {
-    let size = h.size;
-    let i = place(way, k, ahead, h.n);
+    let size = recorded.size;
+    let i = way.place(k, ahead, recorded.n);
     let x = column(i, size.w);
     let y = row(i, size.w);
-    if g.sliced {
-        visit_sliced(size, part, x, y, g, luma, u, v, rs, ns, s, q, t, marks);
-        return;
-    }
-    visit(size, part, x, y, g.o, luma, u, v, s, q, t, marks);
+    let _ = visit(Picture { size, part }, x, y, planes, lent, marks);
 }
 
 // A visit of the first picture, and one of the second where there is one.
-pub fn turn_of_both(
-    way: Way,
-    k: usize,
-    h: Shape,
-    luma: &mut [u8],
-    u: &mut [u8],
-    v: &mut [u8],
-    rs: &[u8],
-    ns: &[u16],
-    s: &[u8],
-    q: &[u8],
-    t: &[u8],
-    rs2: &[u8],
-    ns2: &[u16],
-    s2: &[u8],
-    q2: &[u8],
-    t2: &[u8],
-    marks: &mut [u8],
-    marks2: &mut [u8],
-)
+pub fn turn_of_both(way: Way, k: usize, recorded: &Recorded<'_>, now: &mut Tried<'_>)
     requires { k < 14400 }
-    ensures { (planes luma.new u.new v.new, marks.new, marks2.new) ≡ turn_in way (recording h rs.now ns.now s.now q.now t.now rs2.now ns2.now s2.now q2.now t2.now) k (planes luma.old u.old v.old, marks.old, marks2.old) }
+    ensures same { SameTried now.old now.new }
+    ensures is { tried now.new ≡ turn_in way (recording recorded.now) k (tried now.old) }
 {
-    let part = first_part(h.two);
-    let g = h.first;
+    let part = first_part(recorded.second.is_some());
     turn(
-        way, k, false, h, part, g, luma, u, v, rs, ns, s, q, t, marks,
+        way,
+        k,
+        false,
+        recorded,
+        part,
+        &recorded.first,
+        &mut now.planes,
+        now.first,
     );
-    if !h.two {
-        return;
+    if let Some(lent) = &recorded.second {
+        let bottom = Part::Field(1);
+        turn(
+            way,
+            k,
+            true,
+            recorded,
+            bottom,
+            lent,
+            &mut now.planes,
+            now.second,
+        );
     }
-    let bottom = Part::Field(1);
-    let g2 = h.second;
-    turn(
-        way, k, true, h, bottom, g2, luma, u, v, rs2, ns2, s2, q2, t2, marks2,
-    );
 }
 
 // The call for a whole picture.
-fn whole(
-    size: Size,
-    part: Part,
-    g: Given,
-    luma: &mut [u8],
-    u: &mut [u8],
-    v: &mut [u8],
-    rs: &[u8],
-    ns: &[u16],
-    s: &[u8],
-    q: &[u8],
-    t: &[u8],
-)
-    ensures { planes luma.new u.new v.new ≡ whole_of part (lent_in size g rs.now ns.now s.now q.now t.now) (planes luma.old u.old v.old) }
+fn whole(picture: Picture, planes: &mut Planes<'_>, lent: &Lent<'_>)
+    ensures same { SamePlanes planes.old planes.new }
+    ensures is { samples planes.new ≡ whole_of picture.part (given picture.size lent.now) (samples planes.old) }
 {
-    if g.sliced {
-        whole_sliced(size, part, g, luma, u, v, rs, ns, s, q, t);
-        return;
-    }
-    filter_whole(size, part, g.o, luma, u, v, s, q, t);
+    let _ = filter_whole(picture, planes, lent);
 }
 
 // .. for each.
-pub fn whole_of_both(
-    h: Shape,
-    luma: &mut [u8],
-    u: &mut [u8],
-    v: &mut [u8],
-    rs: &[u8],
-    ns: &[u16],
-    s: &[u8],
-    q: &[u8],
-    t: &[u8],
-    rs2: &[u8],
-    ns2: &[u16],
-    s2: &[u8],
-    q2: &[u8],
-    t2: &[u8],
-)
-    ensures { planes luma.new u.new v.new ≡ wholes (recording h rs.now ns.now s.now q.now t.now rs2.now ns2.now s2.now q2.now t2.now) (planes luma.old u.old v.old) }
+pub fn whole_of_both(recorded: &Recorded<'_>, planes: &mut Planes<'_>)
+    ensures same { SamePlanes planes.old planes.new }
+    ensures is { samples planes.new ≡ wholes (recording recorded.now) (samples planes.old) }
 {
-    let size = h.size;
-    let part = first_part(h.two);
-    let g = h.first;
-    whole(size, part, g, luma, u, v, rs, ns, s, q, t);
-    if !h.two {
-        return;
+    let size = recorded.size;
+    let part = first_part(recorded.second.is_some());
+    whole(Picture { size, part }, planes, &recorded.first);
+    if let Some(lent) = &recorded.second {
+        let part = Part::Field(1);
+        whole(Picture { size, part }, planes, lent);
     }
-    let bottom = Part::Field(1);
-    let g2 = h.second;
-    whole(size, bottom, g2, luma, u, v, rs2, ns2, s2, q2, t2);
 }

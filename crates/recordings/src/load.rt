@@ -1,32 +1,29 @@
-// Reads the parts of a recording that follow its header (FORMAT.md), in the file's order, into spaces that
-// are lent. No contract can say what a file holds: it is proved that reading is safe and ends.
-ghost use Rattle.std.specs.Prelude.{◌≤◌};
+// Reads the parts of a recording that follow its header (FORMAT.md), in the file's order. No contract can say
+// what a file holds: of most it is proved that reading is safe and ends.
+ghost use Rattle.std.specs.Prelude.{◌*◌, ◌/◌, ◌<◌, ◌≤◌, IfOk, length, vec_len, ◌≡◌};
+ghost use Rattle.sizes.specs.declared.Size.{Size};
+ghost use Rattle.slices.specs.LentSlicing.{slicing_of};
+ghost use Rattle.pictures.specs.LentData.{given};
+ghost use Rattle.recordings.specs.Held.{lent_held, planes_held, slicing_held};
+ghost use Rattle.recordings.specs.Slices.{record_at, table_read};
+ghost use Rattle.recordings.specs.Tried.{shown};
 
-use crate::bytes::fill;
-use crate::given::Given;
-use crate::{grids, slicing, space, tables};
-use edges::Offsets;
+use crate::both::Recorded;
+use crate::grids::strengths_of;
+use crate::orders::Shown;
+use anyhow::ensure;
+use edges::{MbGrids, Offsets};
+use pictures::Lent;
 use sizes::Size;
+use slices::{ChromaOffsets, SliceRecord, Slicing};
+use std::alloc::Global;
 use std::io::Read;
-
-// An offset: a byte that stands for -128 to 127.
-pub fn offset(b: u8) -> i32 {
-    if b < 128 {
-        return b as i32;
-    }
-    let below = 255 - b;
-    !(below as i32)
-}
-
-// Three parts, one after the other.
-pub fn three(file: &mut impl Read, a: &mut [u8], b: &mut [u8], c: &mut [u8]) -> bool {
-    fill(file, a) & fill(file, b) & fill(file, c)
-}
 
 // What a header says: the size and the number of macroblocks of a picture, whether there are two pictures,
 // list 1, an 8x8 grid, slices and reference tables, whether the strengths are free of grids, and the chroma
-// offsets.
-#[derive(Clone, Copy)]
+// offsets. Kept: (1) flags, as a recording's header has them; `two` and n as `FromFile` and `most_of` of
+// specs/ take them.
+#[derive(Clone, Copy, Debug, PartialEq, Eq)]
 pub struct Head {
     pub size: Size,
     pub n: usize,
@@ -36,146 +33,220 @@ pub struct Head {
     pub slices: bool,
     pub tables: bool,
     pub free: bool,
-    pub chroma_u: i32,
-    pub chroma_v: i32,
+    pub chroma: ChromaOffsets,
 }
 
-// What was read of a picture's grids and strengths: whether it was all there, and whether the strengths
-// derived from the grids are those of the file, by `check::same` of the kit.
-#[derive(Clone, Copy)]
-struct Strengths {
-    good: bool,
-    same: bool,
-}
-
-// .. of all of a picture, with what it is given.
-#[derive(Clone, Copy)]
-pub struct Loaded {
-    pub good: bool,
-    pub same: bool,
-    pub given: Given,
-}
-
-// .. of all pictures; `free`: the strengths are free of grids.
-#[derive(Clone, Copy)]
-pub struct Found {
-    pub whole: bool,
-    pub free: bool,
-    pub same: bool,
-}
-
-fn at_most(k: usize, most: usize) -> usize
-    ensures { result ≤ most }
+// So many bytes.
+pub fn bytes(file: &mut impl Read, alloc: Global, n: usize) -> anyhow::Result<Vec<u8>>
+    ensures { IfOk result (λ s. vec_len s ≡ n) }
 {
-    if k < most {
-        return k;
-    }
-    most
+    let mut s = vec![in alloc; 0u8; n]?;
+    file.read_exact(&mut s)?;
+    Ok(s)
 }
 
-// Reads the grids of a picture and its strengths s; made are those that are derived from the grids and the
-// tables.
-fn load_strengths(
-    file: &mut impl Read,
-    head: Head,
-    pictures0: &[i32],
-    pictures1: &[i32],
-    t: &[u8],
-    made: &mut [u8],
-    s: &mut [u8],
-) -> Strengths {
-    let n = grids::only_if(!head.free, head.n);
-    let derived = grids::strengths_of(
-        file, head.size, head.two, n, head.lists, pictures0, pictures1, t, made,
-    );
-    let last = fill(file, s);
-    Strengths {
-        good: derived & last,
-        same: check::same(made, s),
-    }
+// .. so many numbers of two bytes, the lower one first.
+pub fn numbers(file: &mut impl Read, alloc: Global, n: usize) -> anyhow::Result<Vec<u16>>
+    requires { n ≤ 65536 }
+    ensures { IfOk result (λ v. vec_len v ≡ n) }
+{
+    let raw = bytes(file, alloc, 2 * n)?;
+    let (pairs, _) = raw.as_chunks::<2>();
+    Ok(
+        pairs
+            .iter()
+            .map(|pair| u16::from_le_bytes(*pair))
+            .collect(alloc)?,
+    )
 }
 
-// A and B of the picture stand for nothing beside slices, and are 0 there.
-fn fitting(slices: bool, a: u8, b: u8) -> bool {
-    !slices | ((a == 0) & (b == 0))
+// How many entries a table has, in two bytes. At most 64 are taken: twice what a list of the standard has,
+// and more slices than any recording.
+fn count(file: &mut impl Read) -> anyhow::Result<usize>
+    ensures { IfOk result (λ n. n ≤ 64) }
+{
+    let mut two = [0u8; 2];
+    file.read_exact(&mut two)?;
+    let n = usize::from(u16::from_le_bytes(two));
+    ensure!(n <= 64, "a table is too long");
+    Ok(n)
 }
 
-// Reads the parts of a picture, in the file's order: offsets, table of slices rs, reference tables, QPs q,
-// 8x8 flags t, slice numbers ns, grids, strengths s.
-pub fn load(
-    file: &mut impl Read,
-    head: Head,
-    rs: &mut [u8],
-    q: &mut [u8],
-    t: &mut [u8],
-    ns: &mut [u16],
-    s: &mut [u8],
-) -> Loaded {
-    let mut ab = [0u8; 2];
-    let offsets = fill(file, &mut ab) & fitting(head.slices, ab[0], ab[1]);
-    let slices = slicing::table_if(head.slices, file, rs);
-    let mut pictures0 = space::pictures();
-    let mut pictures1 = space::pictures();
-    let list0 = tables::read_if(head.tables, file, &mut pictures0);
-    let list1 = tables::read_if(head.tables, file, &mut pictures1);
-    let before = offsets & slices.good & list0.good & list1.good;
-    let first = before & fill(file, q) & fill(file, t) & slicing::read_numbers(file, ns);
-    let mut made = space::strengths();
-    let k = at_most(s.len(), 3840);
-    let last = load_strengths(
-        file,
-        head,
-        &pictures0[..list0.count],
-        &pictures1[..list1.count],
-        t,
-        &mut made[..k],
-        s,
-    );
-    let o = Offsets {
-        a: offset(ab[0]),
-        b: offset(ab[1]),
-        chroma_u: head.chroma_u,
-        chroma_v: head.chroma_v,
-    };
-    let given = Given {
-        sliced: head.slices,
-        o,
-        count: slices.count,
-    };
-    Loaded {
-        good: first & last.good,
-        same: last.same,
-        given,
+// The table of a reference list: for each index a picture's number.
+fn pictures(file: &mut impl Read, alloc: Global) -> anyhow::Result<Vec<i32>>
+    ensures { IfOk result (λ v. vec_len v ≤ 64) }
+{
+    let n = count(file)?;
+    let numbers = numbers(file, alloc, n)?;
+    Ok(numbers.iter().map(|n| i32::from(*n)).collect(alloc)?)
+}
+
+// A record of a table of slices: its mode, A and B.
+fn record(bytes: &[u8; 3]) -> SliceRecord
+    ensures { result ≡ record_at bytes.now 0 }
+{
+    let [mode, a, b] = *bytes;
+    SliceRecord {
+        mode,
+        a: a.cast_signed(),
+        b: b.cast_signed(),
     }
 }
 
-// .. of the second picture, where there is one.
-pub fn load_second(
-    file: &mut impl Read,
-    head: Head,
-    rs: &mut [u8],
-    q: &mut [u8],
-    t: &mut [u8],
-    ns: &mut [u16],
-    s: &mut [u8],
-) -> Loaded {
-    if head.two {
-        return load(file, head, rs, q, t, ns, s);
+// The table of slices that bytes stand for, three bytes a record.
+fn table(alloc: Global, raw: &[u8]) -> anyhow::Result<Vec<SliceRecord>>
+    ensures len { IfOk result (λ v. vec_len v ≡ length raw.now / 3) }
+    ensures is { IfOk result (λ v. v.items ≡ table_read (length raw.now / 3) raw.now) }
+{
+    let (records, _) = raw.as_chunks::<3>();
+    Ok(records.iter().map(record).collect(alloc)?)
+}
+
+// .. as a file holds it, after its count.
+fn records(file: &mut impl Read, alloc: Global) -> anyhow::Result<Vec<SliceRecord>>
+    ensures { IfOk result (λ v. vec_len v ≤ 64) }
+{
+    let n = count(file)?;
+    table(alloc, &bytes(file, alloc, 3 * n)?)
+}
+
+// Three planes, for so many macroblocks. Kept: (4) beside the `Frame` of arrivals: this one is read from a
+// file and only looked at, that one is made and lent to be changed; what they share is three names.
+#[derive(Drop)]
+pub struct Frame {
+    luma: Vec<u8>,
+    u: Vec<u8>,
+    v: Vec<u8>,
+}
+
+impl Frame {
+    pub fn read(file: &mut impl Read, alloc: Global, n: usize) -> anyhow::Result<Frame>
+        requires { n ≤ 120 }
+    {
+        Ok(Frame {
+            luma: bytes(file, alloc, 256 * n)?,
+            u: bytes(file, alloc, 64 * n)?,
+            v: bytes(file, alloc, 64 * n)?,
+        })
     }
-    let o = Offsets {
-        a: 0,
-        b: 0,
-        chroma_u: 0,
-        chroma_v: 0,
-    };
-    let given = Given {
-        sliced: false,
-        o,
-        count: 0,
-    };
-    Loaded {
-        good: true,
-        same: true,
-        given,
+
+    // Kept: (4) alike in shape alone to `Grids::lent` of arrivals, which lends grids.
+    pub fn shown(&self) -> Shown<'_>
+        ensures { shown result ≡ planes_held self.now }
+    {
+        Shown {
+            luma: &self.luma,
+            u: &self.u,
+            v: &self.v,
+        }
+    }
+}
+
+// What a file says of a picture's slices (`Slicing`), held.
+#[derive(Drop)]
+enum Slices {
+    Single(Offsets),
+    Table {
+        chroma: ChromaOffsets,
+        records: Vec<SliceRecord>,
+        numbers: Vec<u16>,
+    },
+}
+
+impl Slices {
+    fn lent(&self) -> Slicing<'_>
+        ensures { slicing_of result ≡ slicing_held self.now }
+    {
+        match self {
+            Slices::Single(offsets) => Slicing::Single(*offsets),
+            Slices::Table {
+                chroma,
+                records,
+                numbers,
+            } => Slicing::Table {
+                chroma: *chroma,
+                records,
+                numbers,
+            },
+        }
+    }
+}
+
+// The parts of a picture, and whether the strengths derived from its grids are those of the file; nothing
+// where they are free of grids.
+#[derive(Drop)]
+pub struct Loaded {
+    pub same: Option<bool>,
+    slices: Slices,
+    strengths: Vec<u8>,
+    qps: Vec<u8>,
+    t8s: Vec<u8>,
+}
+
+impl Loaded {
+    // A and B of the picture stand for nothing beside slices, and are 0 there.
+    pub fn read(file: &mut impl Read, alloc: Global, head: &Head) -> anyhow::Result<Loaded>
+        requires { head.now.n ≤ 120 }
+    {
+        let mut ab = [0u8; 2];
+        file.read_exact(&mut ab)?;
+        let [a, b] = ab;
+        ensure!(!head.slices || (a == 0 && b == 0), "offsets beside slices");
+        let records = if head.slices {
+            Some(records(file, alloc)?)
+        } else {
+            None
+        };
+        let (pictures0, pictures1) = if head.tables {
+            (pictures(file, alloc)?, pictures(file, alloc)?)
+        } else {
+            (Vec::new(alloc), Vec::new(alloc))
+        };
+        let qps = bytes(file, alloc, head.n)?;
+        let t8s = bytes(file, alloc, if head.t8 { head.n } else { 0 })?;
+        let slices = match records {
+            Some(records) => Slices::Table {
+                chroma: head.chroma,
+                records,
+                numbers: numbers(file, alloc, head.n)?,
+            },
+            None => Slices::Single(Offsets {
+                a: i32::from(a.cast_signed()),
+                b: i32::from(b.cast_signed()),
+                chroma_u: head.chroma.u,
+                chroma_v: head.chroma.v,
+            }),
+        };
+        let mut same = None;
+        let strengths = if head.free {
+            bytes(file, alloc, 32 * head.n)?
+        } else {
+            let mut made = vec![in alloc; 0u8; 32 * head.n]?;
+            let served = strengths_of(file, alloc, head, &pictures0, &pictures1, &t8s, &mut made)?;
+            ensure!(served, "a call is refused");
+            let strengths = bytes(file, alloc, 32 * head.n)?;
+            same = Some(check::same(&made, &strengths));
+            strengths
+        };
+        Ok(Loaded {
+            same,
+            slices,
+            strengths,
+            qps,
+            t8s,
+        })
+    }
+
+    pub fn lent(&self) -> Lent<'_>
+        ensures { (size : Size) → given size result ≡ lent_held size self.now }
+    {
+        Lent {
+            slicing: self.slices.lent(),
+            grids: MbGrids {
+                strengths: &self.strengths,
+                qps: &self.qps,
+                t8s: &self.t8s,
+            },
+        }
     }
 }

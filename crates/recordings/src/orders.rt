@@ -1,137 +1,123 @@
 // A recording filtered anew: each picture of it as a whole, and by visits in three orders with refused ones
 // among them, those of two fields mixed. A verdict is true exactly where the planes that were made are the
-// recorded ones (`Judged` of specs/Orders). Names are those of both.rt.
-ghost use Rattle.std.specs.Prelude.{◌≡◌, true, ◌↔◌};
-ghost use Rattle.edges.specs.Picture.{planes};
-ghost use Rattle.recordings.specs.Bytes.{copied};
-ghost use Rattle.recordings.specs.Orders.{recording, visits_to, filtered, ComesOut, Judged};
+// recorded ones (`Judged` of specs/Orders).
+// Kept: (1) a way as an enum, as in ways.rt, which `filtered` and `Becomes` ask whether it is the whole
+// picture; (4) turns by their number, as `visits_to` counts them: no slice is gone over.
+ghost use Rattle.std.specs.Prelude.{◌≡◌, true, ◌↔◌, cond, ◌≤◌};
+ghost use Rattle.edges.specs.LentPlanes.{samples};
+ghost use Rattle.recordings.specs.Bytes.{copied, ones};
+ghost use Rattle.recordings.specs.Orders.{visits_to, visited_all, filtered, second_of, ComesOut, Judged};
+ghost use Rattle.recordings.specs.Tried.{recording, tried, shown, SameTried};
 ghost use Rattle.recordings.specs.Ways.{turns_of};
 
-use crate::both::{Shape, frames, most, turn_of_both, whole_of_both};
-use crate::bytes::{all_ones, copy};
-use crate::grids::only_if;
-use crate::space;
-use crate::ways::{Way, is_whole, turns};
+use crate::both::{Recorded, Tried, frames, most, turn_of_both, whole_of_both};
+use crate::space::zeros;
+use crate::ways::{Way, turns};
+use edges::Planes;
+
+// Planes that are only looked at. Kept: (4) beside `Planes` of edges, which are lent to be changed.
+#[derive(Clone, Copy, Debug, PartialEq, Eq)]
+pub struct Shown<'a> {
+    pub luma: &'a [u8],
+    pub u: &'a [u8],
+    pub v: &'a [u8],
+}
 
 // Tries all macroblocks again and again, so that each has a turn after those that it waits for.
-fn visits_in(
-    way: Way,
-    h: Shape,
-    luma: &mut [u8],
-    u: &mut [u8],
-    v: &mut [u8],
-    rs: &[u8],
-    ns: &[u16],
-    s: &[u8],
-    q: &[u8],
-    t: &[u8],
-    rs2: &[u8],
-    ns2: &[u16],
-    s2: &[u8],
-    q2: &[u8],
-    t2: &[u8],
-    marks: &mut [u8],
-    marks2: &mut [u8],
-)
-    ensures { (planes luma.new u.new v.new, marks.new, marks2.new) ≡ visits_to (turns_of h.n) way (recording h rs.now ns.now s.now q.now t.now rs2.now ns2.now s2.now q2.now t2.now) (planes luma.old u.old v.old, marks.old, marks2.old) }
+#[tactic(auto, using(laws::proofs::Loop::loops))]
+fn visits_in(way: Way, recorded: &Recorded<'_>, now: &mut Tried<'_>)
+    ensures same { SameTried now.old now.new }
+    ensures is { tried now.new ≡ visits_to (turns_of recorded.now.n) way (recording recorded.now) (tried now.old) }
 {
-    for k in 0..turns(h.n) {
-        turn_of_both(
-            way, k, h, luma, u, v, rs, ns, s, q, t, rs2, ns2, s2, q2, t2, marks, marks2,
-        );
+    for k in 0..turns(recorded.n) {
+        turn_of_both(way, k, recorded, now);
     }
 }
 
-fn filter(
-    way: Way,
-    h: Shape,
-    luma: &mut [u8],
-    u: &mut [u8],
-    v: &mut [u8],
-    rs: &[u8],
-    ns: &[u16],
-    s: &[u8],
-    q: &[u8],
-    t: &[u8],
-    rs2: &[u8],
-    ns2: &[u16],
-    s2: &[u8],
-    q2: &[u8],
-    t2: &[u8],
-    marks: &mut [u8],
-    marks2: &mut [u8],
-)
-    ensures { (planes luma.new u.new v.new, marks.new, marks2.new) ≡ filtered way (recording h rs.now ns.now s.now q.now t.now rs2.now ns2.now s2.now q2.now t2.now) (planes luma.old u.old v.old, marks.old, marks2.old) }
+fn filter(way: Way, recorded: &Recorded<'_>, now: &mut Tried<'_>)
+    ensures same { SameTried now.old now.new }
+    ensures is { tried now.new ≡ filtered way (recording recorded.now) (tried now.old) }
 {
-    if is_whole(way) {
-        whole_of_both(h, luma, u, v, rs, ns, s, q, t, rs2, ns2, s2, q2, t2);
+    if way.is_whole() {
+        whole_of_both(recorded, &mut now.planes);
         return;
     }
-    visits_in(
-        way, h, luma, u, v, rs, ns, s, q, t, rs2, ns2, s2, q2, t2, marks, marks2,
-    );
+    visits_in(way, recorded, now);
 }
 
-fn copies(ty: &mut [u8], tu: &mut [u8], tv: &mut [u8], luma: &[u8], u: &[u8], v: &[u8])
-    ensures { (ty.new ≡ copied ty.old luma.now) × (tu.new ≡ copied tu.old u.now) × (tv.new ≡ copied tv.old v.now) }
+fn copy(to: &mut [u8], from: &[u8])
+    ensures { to.new ≡ copied to.old from.now }
 {
-    copy(ty, luma);
-    copy(tu, u);
-    copy(tv, v);
+    if to.len() == from.len() {
+        to.copy_from_slice(from);
+    }
 }
 
-fn same(ty: &[u8], tu: &[u8], tv: &[u8], ay: &[u8], au: &[u8], av: &[u8]) -> bool
-    ensures { (result ≡ true) ↔ (planes ty.now tu.now tv.now ≡ planes ay.now au.now av.now) }
+fn all_ones(marks: &[u8]) -> bool
+    ensures { result ≡ ones marks.now }
 {
-    check::same(ty, ay) & check::same(tu, au) & check::same(tv, av)
+    marks.iter().all(|mark| *mark == 1)
 }
 
-// Whether planes of this function's own, filled with luma, u and v, become ay, au and av.
-fn holds(
-    way: Way,
-    h: Shape,
-    luma: &[u8],
-    u: &[u8],
-    v: &[u8],
-    ay: &[u8],
-    au: &[u8],
-    av: &[u8],
-    rs: &[u8],
-    ns: &[u16],
-    s: &[u8],
-    q: &[u8],
-    t: &[u8],
-    rs2: &[u8],
-    ns2: &[u16],
-    s2: &[u8],
-    q2: &[u8],
-    t2: &[u8],
-) -> bool
-    ensures { (result ≡ true) ↔ ComesOut way (recording h rs.now ns.now s.now q.now t.now rs2.now ns2.now s2.now q2.now t2.now) (planes luma.now u.now v.now) (planes ay.now au.now av.now) }
+// Whether each macroblock of each picture was visited.
+fn is_visited(now: &Tried<'_>) -> bool
+    ensures { result ≡ visited_all now.now.first.now now.now.second.now }
 {
-    let n = h.n;
-    if most(h.two) < n {
+    all_ones(now.first) && all_ones(now.second)
+}
+
+fn are_same(planes: &Planes<'_>, after: Shown<'_>) -> bool
+    ensures { (result ≡ true) ↔ (samples planes.now ≡ shown after.entry) }
+{
+    let luma = check::same(planes.luma, after.luma);
+    let u = check::same(planes.u, after.u);
+    let v = check::same(planes.v, after.v);
+    luma & u & v
+}
+
+// The macroblocks of a second picture. Kept: (1) a flag, as `second_of` takes it.
+fn second(two: bool, n: usize) -> usize
+    ensures upper_bound { result ≤ n }
+    ensures value { result ≡ second_of two n }
+{
+    if two { n } else { 0 }
+}
+
+// Whether planes of this function's own, filled with those before, become those after. Kept: (1) fixed space,
+// of which a part is lent: the verdict is true exactly where `ComesOut` holds, and where a `Vec` could not be
+// had there would be none.
+fn holds(way: Way, recorded: &Recorded<'_>, before: Shown<'_>, after: Shown<'_>) -> bool
+    ensures { (result ≡ true) ↔ ComesOut way (recording recorded.now) (shown before.entry) (shown after.entry) }
+{
+    let n = recorded.n;
+    let two = recorded.second.is_some();
+    if most(two) < n {
         return false;
     }
-    let m = frames(h.two, n);
-    let n2 = only_if(h.two, n);
+    let m = frames(two, n);
+    let n2 = second(two, n);
     let ky = 256 * m;
     let kc = 64 * m;
-    let ty = &mut space::luma()[..ky];
-    let tu = &mut space::chroma()[..kc];
-    let tv = &mut space::chroma()[..kc];
-    let marks = &mut space::marks()[..n];
-    let marks2 = &mut space::marks()[..n2];
-    copies(ty, tu, tv, luma, u, v);
-    filter(
-        way, h, ty, tu, tv, rs, ns, s, q, t, rs2, ns2, s2, q2, t2, marks, marks2,
-    );
-    let visited = is_whole(way) | (all_ones(marks) & all_ones(marks2));
-    visited & same(ty, tu, tv, ay, au, av)
+    let luma = &mut zeros::<30720>()[..ky];
+    let u = &mut zeros::<7680>()[..kc];
+    let v = &mut zeros::<7680>()[..kc];
+    let first = &mut zeros::<120>()[..n];
+    let other = &mut zeros::<120>()[..n2];
+    copy(luma, before.luma);
+    copy(u, before.u);
+    copy(v, before.v);
+    let mut now = Tried {
+        planes: Planes { luma, u, v },
+        first,
+        second: other,
+    };
+    filter(way, recorded, &mut now);
+    let visited = way.is_whole() | is_visited(&now);
+    visited & are_same(&now.planes, after)
 }
 
 // Whether a recording came out as recorded, in each way.
-#[derive(Clone, Copy)]
+#[derive(Clone, Copy, Debug, PartialEq, Eq)]
 pub struct Verdicts {
     pub whole: bool,
     pub raster: bool,
@@ -139,111 +125,13 @@ pub struct Verdicts {
     pub leaps: bool,
 }
 
-pub fn all(
-    h: Shape,
-    luma: &[u8],
-    u: &[u8],
-    v: &[u8],
-    ay: &[u8],
-    au: &[u8],
-    av: &[u8],
-    rs: &[u8],
-    ns: &[u16],
-    s: &[u8],
-    q: &[u8],
-    t: &[u8],
-    rs2: &[u8],
-    ns2: &[u16],
-    s2: &[u8],
-    q2: &[u8],
-    t2: &[u8],
-) -> Verdicts
-    ensures { Judged (recording h rs.now ns.now s.now q.now t.now rs2.now ns2.now s2.now q2.now t2.now) (planes luma.now u.now v.now) (planes ay.now au.now av.now) result }
+pub fn all(recorded: &Recorded<'_>, before: Shown<'_>, after: Shown<'_>) -> Verdicts
+    ensures { Judged (recording recorded.now) (shown before.entry) (shown after.entry) result }
 {
-    let whole = holds(
-        Way::Whole,
-        h,
-        luma,
-        u,
-        v,
-        ay,
-        au,
-        av,
-        rs,
-        ns,
-        s,
-        q,
-        t,
-        rs2,
-        ns2,
-        s2,
-        q2,
-        t2,
-    );
-    let raster = holds(
-        Way::Raster,
-        h,
-        luma,
-        u,
-        v,
-        ay,
-        au,
-        av,
-        rs,
-        ns,
-        s,
-        q,
-        t,
-        rs2,
-        ns2,
-        s2,
-        q2,
-        t2,
-    );
-    let reverse = holds(
-        Way::Reverse,
-        h,
-        luma,
-        u,
-        v,
-        ay,
-        au,
-        av,
-        rs,
-        ns,
-        s,
-        q,
-        t,
-        rs2,
-        ns2,
-        s2,
-        q2,
-        t2,
-    );
-    let leaps = holds(
-        Way::Leaps,
-        h,
-        luma,
-        u,
-        v,
-        ay,
-        au,
-        av,
-        rs,
-        ns,
-        s,
-        q,
-        t,
-        rs2,
-        ns2,
-        s2,
-        q2,
-        t2,
-    );
     Verdicts {
-        whole,
-        raster,
-        reverse,
-        leaps,
+        whole: holds(Way::Whole, recorded, before, after),
+        raster: holds(Way::Raster, recorded, before, after),
+        reverse: holds(Way::Reverse, recorded, before, after),
+        leaps: holds(Way::Leaps, recorded, before, after),
     }
 }

@@ -1,12 +1,13 @@
 // How a recording is filtered anew, and which macroblock is visited in which turn (specs/Ways).
+// Kept: (1) a way as an enum, the whole picture among them, which is no order of visits: `filtered`,
+// `visits_to` and `Becomes` (specs/Orders) and `count_of` say by it what comes out; (4) that a turn is below
+// 14400, as in both.rt.
 ghost use Rattle.std.specs.Prelude.{◌≡◌, ◌<◌, ◌≤◌};
 ghost use Rattle.recordings.specs.Ways.{is_whole, count_of, visited_in, turns_of};
 
-use crate::grids::only_if;
-
 // By the call for a whole picture, or by visits in raster order, from the last macroblock to the first, or in
 // leaps of 131: a prime above 120, so that each pass has every macroblock.
-#[derive(Clone, Copy)]
+#[derive(Clone, Copy, Debug, PartialEq, Eq)]
 pub enum Way {
     Whole,
     Raster,
@@ -14,48 +15,40 @@ pub enum Way {
     Leaps,
 }
 
-pub fn is_whole(way: Way) -> bool
-    ensures { result ≡ is_whole way }
-{
-    match way {
-        Way::Whole => true,
-        Way::Raster => false,
-        Way::Reverse => false,
-        Way::Leaps => false,
+impl Way {
+    pub fn is_whole(self) -> bool
+        ensures { result ≡ is_whole self }
+    {
+        matches!(self, Way::Whole)
+    }
+
+    fn count(self, t: usize) -> usize
+        requires { t < 14400 }
+        ensures upper_bound { result ≤ 1886400 }
+        ensures value { result ≡ count_of self t }
+    {
+        match self {
+            Way::Whole | Way::Raster => t,
+            Way::Reverse => 14399 - t,
+            Way::Leaps => 131 * t,
+        }
+    }
+
+    // The macroblock that is visited in turn t, or, `ahead`, the one half a picture further on.
+    pub fn place(self, t: usize, ahead: bool, n: usize) -> usize
+        requires { t < 14400 }
+        ensures { result ≡ visited_in self t ahead n }
+    {
+        let further = if ahead { n / 2 } else { 0 };
+        (self.count(t) + further).checked_rem(n).unwrap_or(0)
     }
 }
 
-fn count(way: Way, t: usize) -> usize
-    requires { t < 14400 }
-    ensures upper_bound { result ≤ 1886400 }
-    ensures value { result ≡ count_of way t }
-{
-    match way {
-        Way::Whole => t,
-        Way::Raster => t,
-        Way::Reverse => 14399 - t,
-        Way::Leaps => 131 * t,
-    }
-}
-
-// The macroblock that is visited in turn t, or, `ahead`, the one half a picture further on.
-pub fn place(way: Way, t: usize, ahead: bool, n: usize) -> usize
-    requires { t < 14400 }
-    ensures { result ≡ visited_in way t ahead n }
-{
-    if n == 0 {
-        return 0;
-    }
-    (count(way, t) + only_if(ahead, n / 2)) % n
-}
-
-// 120 passes over n macroblocks: each pass visits one at least, so n are enough.
+// 120 passes over n macroblocks, n being 120 at most: where one is left, each pass visits one more at least,
+// so n passes are enough. None where n is above 120.
 pub fn turns(n: usize) -> usize
     ensures upper_bound { result ≤ 14400 }
     ensures value { result ≡ turns_of n }
 {
-    if 120 < n {
-        return 0;
-    }
-    120 * n
+    if n <= 120 { 120 * n } else { 0 }
 }

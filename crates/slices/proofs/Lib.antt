@@ -1,5 +1,5 @@
 pub mod Again
 pub mod OneSlice
 pub mod Own
+pub mod Stretches
 pub mod SurveyOfLaws
-pub mod Turn

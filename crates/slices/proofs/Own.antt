@@ -14,7 +14,7 @@ use Rattle.edges.specs.Macroblock.{after, luma_mb, chroma_mb}
 use Rattle.edges.specs.Picture.{Planes, planes, entries, before_of, settings_at}
 use Rattle.edges.specs.declared.EdgesOn.{EdgesOn}
 use Rattle.edges.specs.declared.Offsets.{Offsets}
-use Rattle.edges.specs.declared.settings.Layout.{Layout}
+use Rattle.edges.specs.declared.plan.Layout.{Layout}
 use Rattle.slices.specs.Inner.{offsets_with, edges_by, OwnSettings}
 use Rattle.slices.specs.Slicing.{Slicing, single, sliced, slice_at, held_in}
 use Rattle.slices.specs.declared.ChromaOffsets.{ChromaOffsets}

@@ -1,17 +1,36 @@
--- A table that is read through: none of its records, one more, all; and what the loop of `survey_of` keeps, from
--- its beginning, over a turn, to its end. Assumes nothing.
+-- A table that is read through record by record: none of them, one more, all; and what such a reading keeps,
+-- from its beginning, over a turn, to its end. The calls look for each of both instead (`any_bad`); these
+-- laws say that one reading comes to the same. Assumes nothing.
 use mathlib.Core.Path.{◌≡◌, refl, ap, ◌∙◌}
-use mathlib.Core.Bool.{false}
+use mathlib.Core.Bool.{Bool, false, ◌||◌}
 use mathlib.Core.List.{List}
 use Prim.Native.Nat.{ℕ, ◌+◌, ◌<◌, ◌≤◌, zero-le}
 use native.Mathlib.Nat.{le_antisymm}
 use native.Mathlib.Omega.{arith}
 use lib.ListN.{length}
 use Rattle.laws.proofs.Some.{some-none, some_more}
+use Rattle.laws.specs.Some.{some}
 use Rattle.slices.specs.declared.SliceRecord.{SliceRecord}
-use Rattle.slices.specs.declared.Survey.{Survey}
-use Rattle.slices.specs.Inner.{surveyed, seen, survey_up, survey_of}
 use Rattle.slices.specs.Table.{record_of, bad_pair, bad_mode, some_bad_pair, some_bad_mode}
+
+-- what a table comes to: the number of its records, and whether one of them, used or not, has an offset out
+-- of range or an unknown mode
+pub record Survey : Type 0 where
+  pub count : ℕ
+  pub bad_pair : Bool
+  pub bad_mode : Bool
+
+abbrev pub surveyed : ℕ → Bool → Bool → Survey
+surveyed n six m = record { count = n; bad_pair = six; bad_mode = m }
+
+abbrev pub seen : Survey → SliceRecord → Survey
+seen s r = surveyed s.count (s.bad_pair || bad_pair r) (s.bad_mode || bad_mode r)
+
+unfoldable pub survey_up : List SliceRecord → ℕ → Survey
+survey_up t n = surveyed (length t) (some n (λ k. bad_pair (record_of t k))) (some n (λ k. bad_mode (record_of t k)))
+
+abbrev pub survey_of : List SliceRecord → Survey
+survey_of t = surveyed (length t) (some_bad_pair t) (some_bad_mode t)
 
 pub none_yet : (t : List SliceRecord) → surveyed (length t) false false ≡ survey_up t 0
 unfolding survey_up

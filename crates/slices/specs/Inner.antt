@@ -1,28 +1,17 @@
--- Apart: no promise to a caller of the public calls rests on it. What is known of a table once it was read
--- through, and what the code takes from a record.
-use Rattle.std.specs.Prelude.{ℕ, ◌+◌, ◌-◌, ◌*◌, ◌≡◌, Bool, ◌&&◌, ◌||◌, List, ltb, length}
+-- Apart: no promise to a caller of the public calls rests on it. What the code takes from a record, and from
+-- all that it is told of slices.
+use Rattle.std.specs.Prelude.{ℕ, ◌+◌, ◌-◌, ◌*◌, ◌≤◌, ◌≡◌, ◌&&◌, List, ltb, length}
 use Rattle.edges.specs.Picture.{entries}
 use Rattle.edges.specs.declared.EdgesOn.{EdgesOn}
 use Rattle.edges.specs.declared.Offsets.{Offsets}
-use Rattle.laws.specs.Some.{some}
-use Rattle.slices.specs.Slicing.{Slicing, offset_a, offset_b, chroma_offsets, filters, filters_edge, filters_inside, filters_toward}
-use Rattle.slices.specs.Table.{record_of, bad_pair, bad_mode, some_bad_pair, some_bad_mode}
+use Rattle.slices.specs.Slicing.{Slicing, single, sliced, offset_a, offset_b, chroma_offsets, filters, filters_edge, filters_inside, filters_toward}
 use Rattle.slices.specs.declared.ChromaOffsets.{ChromaOffsets}
 use Rattle.slices.specs.declared.SliceRecord.{SliceRecord}
-use Rattle.slices.specs.declared.Survey.{Survey}
 
--- ---- the first n records of a table, and all
-abbrev pub surveyed : ℕ → Bool → Bool → Survey
-surveyed n six m = record { count = n; bad_pair = six; bad_mode = m }
-
-abbrev pub seen : Survey → SliceRecord → Survey
-seen s r = surveyed s.count (s.bad_pair || bad_pair r) (s.bad_mode || bad_mode r)
-
-unfoldable pub survey_up : List SliceRecord → ℕ → Survey
-survey_up t n = surveyed (length t) (some n (λ k. bad_pair (record_of t k))) (some n (λ k. bad_mode (record_of t k)))
-
-abbrev pub survey_of : List SliceRecord → Survey
-survey_of t = surveyed (length t) (some_bad_pair t) (some_bad_mode t)
+-- the first n macroblocks have numbers, where numbers are lent
+abbrev pub NumbersHold : ℕ → Slicing → Type 0
+NumbersHold n (single o) = Unit {0}
+NumbersHold n (sliced c t ns) = n ≤ length ns
 
 -- ---- a macroblock's own settings, by value
 abbrev pub offsets_with : SliceRecord → ChromaOffsets → Offsets

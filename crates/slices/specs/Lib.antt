@@ -1,3 +1,4 @@
 pub mod Inner
+pub mod LentSlicing
 pub mod Slicing
 pub mod Table

@@ -13,7 +13,7 @@ use Rattle.laws.specs.Loop.{up_to, span}
 use Rattle.laws.specs.Refusal.{refusal, or_else}
 use Rattle.laws.proofs.Bools.{or-false, full}
 use Rattle.laws.proofs.Grid.{index-lt}
-use Rattle.laws.proofs.Loop.{up_to-keeps, up_to-add, span_none, span_more}
+use Rattle.laws.proofs.Loop.{up_to-keeps, up_to-add, span_none, span_more, span-join}
 use Rattle.laws.proofs.Refusal.{passes, none-applies, refusal-left, or-else-kept, or-else-0}
 use Rattle.motion.specs.Grids.{Grids}
 use Rattle.sizes.specs.Entries.{bad_flag_count}
@@ -59,6 +59,11 @@ module _ (a b : ℕ) (f : ℕ → ℕ) where
       ∙ first-kept (b - a - 1) (λ j. g (1 + j)) (g 0) (λ e. k (sym (ap f z) ∙ e))
       ∙ ap f z)
 
+-- .. from a up to b, where none is before x
+pub stretch-stop : (a b : ℕ) (f : ℕ → ℕ) (x : ℕ) → a ≤ x → x < b → 0 ≡ span a x (λ x r. or_else r (f x)) 0 → (f x ≡ 0 → ⊥) → f x ≡ span a b (λ x r. or_else r (f x)) 0
+stretch-stop a b f x h k e n =
+    stretch-first x b f k n ∙ ap (span x b (λ x r. or_else r (f x))) e ∙ span-join a x b (λ x r. or_else r (f x)) 0 h (omega arith)
+
 -- ---- one turn
 pub span-one : {S : Type 0} (a : ℕ) (f : ℕ → S → S) (s : S) → f a s ≡ span a (a + 1) f s
 span-one a f s = span_more a a f s (le_refl a) (span_none a f s) refl
@@ -91,10 +96,6 @@ module _ (size : Size) (field : Bool) (y : ℕ) (known : Known) (kinds t8s : Lis
   lengths-first a b n l e h =
       let k = lengths-refuse size a y t8s g (length s) e h (untrue_known (known_at known kinds (y * size.w + a)) g size.w a y) in
       record { says = k ∙ stretch-first a b (answer_at size y known kinds t8s g (length s)) l (λ z. h (k ∙ z)); leaves = rw (ne_eqb n 0 h) }
-
-  -- by values, or by what is said
-  pub values-first : (a b n : ℕ) → n ≡ stretch_answer size a b y known kinds t8s g (length s) → (n ≡ 0 → ⊥) → StretchOutcome size field a b y known kinds t8s g s n s
-  values-first a b n e h = record { says = e; leaves = rw (ne_eqb n 0 h) }
 
 -- one macroblock, of which no number is lent
 pub one-macroblock : (size : Size) (field : Bool) (x y : ℕ) (known : Known) (t8s : List ℕ) (g : Grids) (s : List ℕ) (n : ℕ) (s' : List ℕ)

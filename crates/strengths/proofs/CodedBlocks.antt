@@ -58,8 +58,5 @@ module _ (w : ℕ) (t8s : ℕ → Bool) (x y k : ℕ) (inside : x < w) where
       → coded_by g.nnz (4 * w) (across_flag (transforms_of t8s w x y) k) (p_odd k) (p_block w x y k) ≡ coded g w t8s (p_block w x y k)
   p-coded g b = let a = across w t8s x y k inside b in own-coded a.inside a.own g t8s a.flag a.odd
 
-  pub q-counts : {n : ℕ} (t : Bool) → own_block w x y 3 3 < n → InCounts n (4 * w) t (q_odd k) (q_block w x y k)
-  q-counts t h = own-counts inside (q-own w x y k) t h refl
-
   pub p-counts : {n : ℕ} (t : Bool) → border x y k ≡ false → own_block w x y 3 3 < n → InCounts n (4 * w) t (p_odd k) (p_block w x y k)
   p-counts t b h = let a = across w t8s x y k inside b in own-counts a.inside a.own t (omega (arith, a.last)) a.odd

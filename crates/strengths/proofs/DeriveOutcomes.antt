@@ -79,6 +79,23 @@ module _ (size : Size) (x y : ℕ) (t8s : List ℕ) (g : Grids) (n : ℕ) where
           no p = omega arith
       go false k = refl
 
+-- all that is known of a macroblock that answers 0
+pub record AllPassed (size : Size) (x y : ℕ) (t8s : List ℕ) (g : Grids) (n : ℕ) (untrue : Bool) : Type 0 where
+  pub zero : refusal (derive_checks size x y t8s g n) ≡ 0
+  pub fits : Derivable size x y t8s g n
+  pub agree : disagree g.inter size.w x y ≡ false
+  pub said : untrue ≡ false
+
+pub passed : (size : Size) (x y : ℕ) (t8s : List ℕ) (g : Grids) (n : ℕ) (untrue : Bool) → answer_of size x y t8s g untrue n ≡ 0 → AllPassed size x y t8s g n untrue
+passed size x y t8s g n untrue e =
+    let z = passed-all size x y t8s g n untrue e in
+    record {
+      zero = z;
+      fits = passed-derivable size x y t8s g n z;
+      agree = agrees size x y t8s g n z;
+      said = said-true size x y t8s g n untrue e;
+    }
+
 -- the strengths by a kind that is true are those of the definition
 pub by-true-kind : (size : Size) (field : Bool) (x y : ℕ) (t8s : List ℕ) (g : Grids) (s : List ℕ) (kind : MbKind) (n : ℕ) → refusal (derive_checks size x y t8s g n) ≡ 0 → is_kind g size.w x y kind ≡ true
     → written (y * size.w + x) (strength_by kind (mode_of field) g size.w (transforms_of (flag_at t8s) size.w x y) x y) s ≡ written (y * size.w + x) (strength_at (mode_of field) g size.w (flag_at t8s) x y) s

@@ -21,7 +21,7 @@ use Rattle.strengths.specs.Blocks.{origin, own_block, left_block, above_block}
 use Rattle.strengths.specs.ByKind.{inside, across_by, either_coded, is_intra, strength_by}
 use Rattle.strengths.specs.Checks.{disagree}
 use Rattle.strengths.specs.Edges.{edge_at, ask_inner, ask_outer, both_inter, ask_edge, by_asked, intra_edge}
-use Rattle.strengths.specs.Eights.{across_flag, p_odd, q_odd}
+use Rattle.strengths.specs.Eights.{across_flag, p_odd}
 use Rattle.strengths.specs.Inner.{filled}
 use Rattle.strengths.specs.Kinds.{is_kind}
 use Rattle.strengths.specs.Strength.{vertical, edge, segment, q_row, q_column, q_block, p_block, border, skipped, outer_intra, between}
@@ -34,7 +34,7 @@ use Rattle.strengths.specs.declared.kinds.MbKind.TheVariants.{Intra, Skip, Inter
 use Rattle.strengths.specs.declared.kinds.Mode.{Mode}
 use Rattle.strengths.proofs.AcrossFits.{across-fits}
 use Rattle.strengths.proofs.InterAgrees.{own-inter, intra-is, left-agrees, above-agrees}
-use Rattle.strengths.proofs.OwnBlocks.{q-own, own-last, left-own, upper-own}
+use Rattle.strengths.proofs.OwnBlocks.{q-own, left-own, upper-own}
 
 -- ---- byte k + s of the edge that begins with byte k
 module _ (k s : ℕ) (m : k % 4 ≡ 0) (l : k < 32) (h : s < 4) where
@@ -60,9 +60,6 @@ module _ (k s : ℕ) (m : k % 4 ≡ 0) (l : k < 32) (h : s < 4) where
   pub p-odd : cond (vertical k) s (edge k + 1) % 2 ≡ p_odd (k + s)
   p-odd = sym (λ i. cond (same-vertical i) (same-segment i) (same-edge i + 1) % 2)
 
-  pub q-odd : cond (vertical k) s (edge k) % 2 ≡ q_odd (k + s)
-  q-odd = sym (λ i. cond (same-vertical i) (same-segment i) (same-edge i) % 2)
-
   pub same_asked : (kind : MbKind) (mode : Mode) (t8 : Bool) (inter : List ℕ) (w x y : ℕ) → ask_edge kind mode t8 inter w x y (k + s) ≡ ask_edge kind mode t8 inter w x y k
   same_asked kind mode t8 inter w x y =
       λ i. cond ((eqb (same-edge i) 0 && eqb (cond (same-vertical i) x y) 0) || (t8 && eqb (same-edge i % 2) 1)) (Same 0)
@@ -83,28 +80,17 @@ module _ (k s : ℕ) (m : k % 4 ≡ 0) (l : k < 32) (h : s < 4) where
         go true = omega arith
         go false = omega arith
 
-    pub p-place : (edge_at w x y k).q + s * (edge_at w x y k).along - (edge_at w x y k).back ≡ p_block w x y (k + s)
-    p-place = λ i. q-place i - cond (sym same-vertical i) 1 (4 * w)
-
--- ---- where the blocks of segment s stand, by the edge's way: there are both, and they lie in the grids
+-- ---- the block across from segment s, by the edge's way: there is one, in an odd row or not
 pub record Located (w x y k s : ℕ) (d : Edge) : Type 0 where
-  pub q : d.q + s * d.along ≡ q_block w x y (k + s)
-  pub p : d.q + s * d.along - d.back ≡ p_block w x y (k + s)
   pub there : d.back ≤ d.q + s * d.along
-  pub last : d.q + s * d.along ≤ own_block w x y 3 3
   pub p-row : cond d.down s (d.«from» + 1) % 2 ≡ p_odd (k + s)
-  pub q-row : cond d.down s d.«from» % 2 ≡ q_odd (k + s)
 
 pub located : (w x y k s : ℕ) (d : Edge) → k % 4 ≡ 0 → k < 32 → s < 4 → x < w → d ≡ edge_at w x y k → border x y k ≡ false → Located w x y k s d
 located w x y k s d m l h c e b =
     rw e
     (record {
-      q = q-place k s m l h w x y;
-      p = p-place k s m l h w x y;
       there = subst (λ (n : ℕ). cond (vertical k) 1 (4 * w) ≤ n) (sym (q-place k s m l h w x y)) at_back;
-      last = subst (λ (n : ℕ). n ≤ own_block w x y 3 3) (sym (q-place k s m l h w x y)) (own-last c (q-own w x y (k + s)));
       p-row = p-odd k s m l h;
-      q-row = q-odd k s m l h;
     })
   where
     either : (a : Bool) → a ≡ false → (a || false) ≡ false

@@ -15,7 +15,7 @@ use Rattle.laws.proofs.Refusal.{passes}
 use Rattle.motion.specs.Grids.{Grids}
 use Rattle.motion.specs.Inner.{Optional, Hold}
 use Rattle.strengths.specs.Blocks.{own_block}
-use Rattle.strengths.specs.Inner.{InGrids}
+use Rattle.strengths.specs.Inner.{InGrids, GridsReach}
 use Rattle.strengths.specs.Calls.{length_checks}
 use Rattle.strengths.specs.Checks.{bad_grids}
 use Rattle.sizes.specs.Inner.{InPicture}
@@ -93,23 +93,13 @@ module _ (size : Size) (x y : ℕ) (t8s : List ℕ) (g : Grids) (n : ℕ) (h : G
           no : length g.ref1 ≡ 16 * (size.w * size.h) → length g.ref1 ≡ 0 → own_block size.w x y 3 3 < 16 * (size.w * size.h) → ⊥
           no p q r = omega arith
 
-  -- list 1 by itself, where it is lent
-  pub list1-inside : 0 < length g.ref1 → InGrids size.w x y (length g.ref1)
-  list1-inside k = ⊎_elim (λ e. absurd (no e.0 k)) (λ e. inside_of (length g.ref1) (omega (arith, e.0))) h.list1
-    where
-      no : length g.ref1 ≡ 0 → 0 < length g.ref1 → ⊥
-      no p q = omega arith
-
   -- the macroblock in grids by macroblock
   in-picture : (k : ℕ) → size.w * size.h ≤ k → InPicture size.w x y k
   in-picture k l = record { column = h.column; index = omega (arith, index-lt size.w size.h x y h.column h.line) }
 
 -- ---- what the walks and the derivation ask
 pub record Derivable (size : Size) (x y : ℕ) (t8s : List ℕ) (g : Grids) (n : ℕ) : Type 0 where
-  pub grids : Hold g.inter g.ref0 g.mv0 g.ref1 g.mv1 (own_block size.w x y 3 3 + 1)
-  pub inter : InGrids size.w x y (length g.inter)
-  pub refs : InGrids size.w x y (length g.ref0)
-  pub nnz : InGrids size.w x y (length g.nnz)
+  pub within : GridsReach g size.w x y
   pub place : InGrids size.w x y 589824
   pub flags : eqb (length t8s) 0 ≡ false → InPicture size.w x y (length t8s)
   pub index : InPicture size.w x y 36864
@@ -118,10 +108,7 @@ pub record Derivable (size : Size) (x y : ℕ) (t8s : List ℕ) (g : Grids) (n :
 pub derivable : (size : Size) (x y : ℕ) (t8s : List ℕ) (g : Grids) (n : ℕ) → GridsFit size x y t8s g n → Derivable size x y t8s g n
 derivable size x y t8s g n h =
     record {
-      grids = holds size x y t8s g n h;
-      inter = inside_of size x y t8s g n h _ (omega (arith, h.inters));
-      refs = inside_of size x y t8s g n h _ (omega (arith, h.refs));
-      nnz = inside_of size x y t8s g n h _ (omega (arith, h.counts));
+      within = record { hold = holds size x y t8s g n h; counts = inside_of size x y t8s g n h _ (omega (arith, h.counts)) };
       place = small size x y t8s g n h;
       flags = λ e. in-picture size x y t8s g n h (length t8s) (omega (arith, h.flags e));
       index = in-picture size x y t8s g n h 36864 (omega (arith, h.sides.most));

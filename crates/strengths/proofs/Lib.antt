@@ -20,6 +20,7 @@ pub mod Alike
 pub mod SameReads
 pub mod ReadsAlone
 pub mod Tables
+pub mod ReadPlaces
 pub mod RenamedPictures
 pub mod IdentityTables
 pub mod StoredPictures
@@ -31,3 +32,4 @@ pub mod Written
 pub mod Along
 pub mod RowOutcomes
 pub mod RowsAlike
+pub mod Neighbouring

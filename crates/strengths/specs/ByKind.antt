@@ -37,8 +37,8 @@ is_intra Skip = false
 is_intra InterUniform = false
 is_intra Inter = false
 
--- ---- what a caller says: whether it says anything, whether motion and counts tell that it is untrue, whether
--- it is by what the own blocks show, and the kind to go by
+-- ---- what a caller says: whether it says anything, whether motion and counts tell that it is untrue,
+-- whether it is by what the own blocks show, and the kind to go by
 abbrev pub says_any : Known → Bool
 says_any (Stated kind) = true
 says_any (Flags flat uniform) = flat || uniform

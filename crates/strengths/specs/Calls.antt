@@ -1,7 +1,8 @@
--- What the strength calls promise, three of a macroblock and one of a row: one answer and one final content of the strengths grid, for every
--- input. The flags t8s and the grids g, with the tables of their lists, are only read. The numbers are those
--- of docs/RULES.md, "Answers", the strengths those of ITU-T H.264, clause 8.7.2.1 (`strength_at`): of a field
--- where `field` is true, else of a frame. No check and no answer depends on which.
+-- What the strength calls promise, three of a macroblock and one of a row: one answer and one final content
+-- of the strengths grid, for every input. The flags t8s and the grids g, with the tables of their lists, are
+-- only read. The numbers are those of docs/RULES.md, "Answers", the strengths those of ITU-T H.264, clause
+-- 8.7.2.1 (`strength_at`): of a field where `field` is true, else of a frame. No check and no answer depends
+-- on which.
 use Rattle.std.specs.Prelude.{ℕ, ◌+◌, ◌*◌, ◌≡◌, Bool, true, false, cond, not, ◌&&◌, ◌||◌, List, [], ◌∷◌, ◌++◌, eqb, length}
 use Rattle.laws.specs.Loop.{up_to}
 use Rattle.laws.specs.Refusal.{refusal, or_else}
@@ -26,13 +27,16 @@ length_checks size x y t8s g n =
     ∷ (5, bad_blocks (16 * (size.w * size.h)) g)
     ∷ []
 
-abbrev pub value_checks : Size → ℕ → ℕ → List ℕ → Grids → List (ℕ × Bool)
-value_checks size x y t8s g =
-    (7, bad_inter g size.w x y || bad_flags t8s size.w x y)
-    ∷ (10, bad_refs g size.w x y)
+abbrev pub value_checks_at : ℕ → ℕ → ℕ → List ℕ → Grids → List (ℕ × Bool)
+value_checks_at w x y t8s g =
+    (7, bad_inter g w x y || bad_flags t8s w x y)
+    ∷ (10, bad_refs g w x y)
     ∷ (22, bad_pictures g)
-    ∷ (11, disagree g.inter size.w x y)
+    ∷ (11, disagree g.inter w x y)
     ∷ []
+
+abbrev pub value_checks : Size → ℕ → ℕ → List ℕ → Grids → List (ℕ × Bool)
+value_checks size x y t8s g = value_checks_at size.w x y t8s g
 
 abbrev pub derive_checks : Size → ℕ → ℕ → List ℕ → Grids → ℕ → List (ℕ × Bool)
 derive_checks size x y t8s g n = length_checks size x y t8s g n ++ value_checks size x y t8s g
@@ -68,7 +72,8 @@ FlagsOutcome size field r t8s g = DeriveOutcome size field r.x r.y t8s g (untrue
 abbrev pub PlainOutcome : Size → Bool → ℕ → ℕ → List ℕ → Grids → List ℕ → ℕ → List ℕ → Type 0
 PlainOutcome size field x y t8s g = DeriveOutcome size field x y t8s g false
 
--- ---- a row of macroblocks, with a kind for each of the picture's or for none. What macroblock (x, y) answers
+-- ---- a row of macroblocks, with a kind for each of the picture's or for none. What macroblock (x, y)
+-- answers
 abbrev pub answer_at : Size → ℕ → Known → List ℕ → List ℕ → Grids → ℕ → ℕ → ℕ
 answer_at size y known kinds t8s g n x =
     answer_of size x y t8s g (untrue_known (known_at known kinds (y * size.w + x)) g size.w x y) n

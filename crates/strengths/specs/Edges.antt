@@ -1,7 +1,7 @@
 -- Apart: no promise to a caller of the public calls rests on it. How the code goes about the four strengths
 -- of an edge, which are bytes k to k + 3 where k is a multiple of 4: what they depend on is asked once, of
 -- byte k. That each is then `strength_by` is the law `asked_is`.
-use Rattle.std.specs.Prelude.{ℕ, ◌+◌, ◌-◌, ◌*◌, Bool, cond, ◌&&◌, ◌||◌, List, [], eqb, ℤ, get_or}
+use Rattle.std.specs.Prelude.{ℕ, ◌≡◌, ◌+◌, ◌-◌, ◌*◌, ◌%◌, ◌<◌, Bool, false, cond, ◌&&◌, ◌||◌, List, [], eqb, ℤ, get_or}
 use Rattle.motion.specs.Grids.{Grids, motion_at, blk_at}
 use Rattle.motion.specs.Inner.{lone_strength}
 use Rattle.motion.specs.Motion.{inter_strength}
@@ -26,6 +26,13 @@ edge_at w x y k = record {
   down = vertical k;
   «from» = edge k;
 }
+
+-- d is where the edge of byte k lies, the first of an edge that is no border
+pub record IsEdge (w x y k : ℕ) (d : Edge) : Type 0 where
+  pub is : d ≡ edge_at w x y k
+  pub first : k % 4 ≡ 0
+  pub byte : k < 32
+  pub inside : border x y k ≡ false
 
 -- ---- what its strengths depend on, and a strength by that
 abbrev pub ask_inner : MbKind → Asked

@@ -7,4 +7,5 @@ pub mod Inner
 pub mod Kinds
 pub mod Reads
 pub mod Strength
+pub mod Told
 pub mod Calls

@@ -1,9 +1,14 @@
 // What the four strengths of an edge depend on, by its first byte k.
+// Kept: (1) a direction and an edge by a byte's number k: `border`, `skipped` and `ask_edge` of specs/ count
+// an edge by its first byte. (4) that a grid reaches the place (`InGrids`) is a fact of two values, by one
+// name; what an edge is asked by is named one by one by `ask_edge`; and where x and y are told alone, nothing
+// is asked of the picture's width, which a `Place` has.
 ghost use Rattle.std.specs.Prelude.{◌≡◌, cond, ◌||◌, ltb, length};
 ghost use Rattle.strengths.specs.Edges.{ask_inner, ask_outer, ask_edge, intra_edge};
 ghost use Rattle.strengths.specs.Inner.{InGrids};
 ghost use Rattle.strengths.specs.Strength.{border, skipped};
 
+use crate::blocks::Blocks;
 use crate::kinds::{Asked, MbKind, Mode};
 
 // By the direction of byte k's edge: a where it is vertical, else b.
@@ -48,28 +53,18 @@ fn ask_outer(mode: Mode, left: bool, both: bool) -> Asked
 }
 
 // Of any edge.
-pub fn ask(
-    kind: MbKind,
-    mode: Mode,
-    t8: bool,
-    w: usize,
-    x: usize,
-    y: usize,
-    inter: &[u8],
-    k: usize,
-) -> Asked
-    requires in_grids { InGrids w x y (length inter.now) }
-    requires in_grids_2 { InGrids w x y 589824 }
-    ensures { result ≡ ask_edge kind mode t8 inter.now w x y k }
+pub fn ask(kind: MbKind, mode: Mode, t8: bool, blocks: Blocks, inter: &[u8], k: usize) -> Asked
+    requires { InGrids blocks.place.w blocks.place.x blocks.place.y (length inter.now) }
+    ensures { result ≡ ask_edge kind mode t8 inter.now blocks.place.w blocks.place.x blocks.place.y k }
 {
-    if no_edge(t8, x, y, k) {
+    if no_edge(t8, blocks.place.x, blocks.place.y, k) {
         return Asked::Same(0);
     }
     if k / 4 % 4 != 0 {
         return ask_inner(kind);
     }
-    let at = 16 * (y * w) + 4 * x;
-    let both = (inter[at - by_way(k, 1, 4 * w)] == 1) & (inter[at] == 1);
+    let at = blocks.origin();
+    let both = (inter[at - by_way(k, 1, blocks.stride())] == 1) & (inter[at] == 1);
     ask_outer(mode, k < 16, both)
 }
 

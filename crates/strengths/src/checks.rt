@@ -1,36 +1,38 @@
 // The checks of a strength call, in the order of their numbers, but 22 right after 10.
-ghost use Rattle.std.specs.Prelude.{◌≡◌, false, ◌||◌, [], ◌∷◌, ◌*◌, ◌<◌, ◌≤◌, eqb, length};
+// Kept: (4) that a grid reaches the place (`InGrids`, `InPicture`) is a fact of two values, by one name: what
+// asks it is given one grid alone, or as `check_values` several, of which one may be empty.
+ghost use Rattle.std.specs.Prelude.{◌≡◌, false, ◌||◌, [], ◌∷◌, ◌+◌, ◌*◌, ◌<◌, ◌≤◌, eqb, ltb, length, get_or};
 ghost use Rattle.laws.specs.Refusal.{refusal};
-ghost use Rattle.motion.specs.Grids.{grids};
-ghost use Rattle.strengths.specs.Blocks.{some_read};
-ghost use Rattle.strengths.specs.Inner.{InGrids, sought_at, places_of};
+ghost use Rattle.motion.specs.Lent.{grids_of};
+ghost use Rattle.motion.specs.Inner.{HoldsOrEmpty};
+ghost use Rattle.refusals.specs.Refusals.{number_of};
 ghost use Rattle.sizes.specs.Inner.{InPicture};
-ghost use Rattle.sizes.specs.Sizes.{bad_size, outside_of};
-ghost use Rattle.strengths.specs.Checks.{bad_by_macroblock, bad_lengths, one_table, bad_flags, below_none, not_picture, bad_table, disagree};
-ghost use Rattle.strengths.specs.Calls.{value_checks};
+ghost use Rattle.strengths.specs.Blocks.{own_block, some_read};
+ghost use Rattle.strengths.specs.Calls.{length_checks, value_checks_at};
+ghost use Rattle.strengths.specs.Checks.{bad_grids, one_table, bad_flags, below_none, not_picture, bad_table, disagree};
+ghost use Rattle.strengths.specs.Inner.{InGrids, GridsReach};
 
-use crate::walks::{Sought, beside_differ, beside_have, own_differ, own_have};
-use sizes::entries::{bad_flag_count, over_near};
-use sizes::{Size, bad_size};
+use crate::Source;
+use crate::blocks::Blocks;
+use crate::walks::{some_beside, some_own, some_read};
+use motion::grids::{Grids, ReferenceList};
+use refusals::Refusal;
+use sizes::bad_size;
+use sizes::entries::{any_bad, bad_flag_count, over_near};
+use sizes::places::Place;
 
 // Check 5, by lengths: n blocks.
-fn bad_lengths(
-    n: usize,
-    inter: usize,
-    nnz: usize,
-    ref0: usize,
-    mv0: usize,
-    ref1: usize,
-    mv1: usize,
-) -> bool
+fn bad_lengths(n: usize, g: &Grids<'_>) -> bool
     requires { n ≤ 589824 }
-    ensures { result ≡ bad_lengths n inter nnz ref0 mv0 ref1 mv1 }
+    ensures { result ≡ bad_grids n (grids_of g.now) }
 {
-    (inter != n)
-        | (nnz != n)
-        | (ref0 != n)
-        | (mv0 != 2 * n)
-        | !(((ref1 == 0) & (mv1 == 0)) | ((ref1 == n) & (mv1 == 2 * n)))
+    let refs1 = g.list1.references.len();
+    let vectors1 = g.list1.vectors.len();
+    (g.inter.len() != n)
+        | (g.nnz.len() != n)
+        | (g.list0.references.len() != n)
+        | (g.list0.vectors.len() != 2 * n)
+        | !(((refs1 == 0) & (vectors1 == 0)) | ((refs1 == n) & (vectors1 == 2 * n)))
 }
 
 // Check 5, of the tables: just one is empty, though list 1 is lent or it is list 0's.
@@ -40,78 +42,55 @@ fn one_table(ref1: usize, pictures0: usize, pictures1: usize) -> bool
     ((pictures0 == 0) & (pictures1 != 0)) | ((pictures0 != 0) & (pictures1 == 0) & (ref1 != 0))
 }
 
-// Checks 1, 2, 4 and 5, which read lengths alone.
-pub fn refuse_lengths(
-    size: Size,
+// Checks 1, 2, 4 and 5, which read lengths alone. `strengths` is that of their grid. Kept: (1) x and y: a
+// call is told places outside its picture and refuses them, and a `Place` would have a width of its own
+// beside the picture's. (4) checks 1 and 2 are written here as in other calls: all four are one list,
+// `length_checks`.
+pub fn check_lengths(
+    source: &Source<'_>,
     x: usize,
     y: usize,
-    t8s: usize,
     strengths: usize,
-    inter: usize,
-    nnz: usize,
-    ref0: usize,
-    mv0: usize,
-    ref1: usize,
-    mv1: usize,
-    pictures0: usize,
-    pictures1: usize,
-) -> u32
-    ensures { result ≡ refusal ((1, bad_size size) ∷ (2, outside_of size x y) ∷ (4, bad_by_macroblock (size.w * size.h) strengths t8s) ∷ (5, bad_lengths (16 * (size.w * size.h)) inter nnz ref0 mv0 ref1 mv1 || one_table ref1 pictures0 pictures1) ∷ []) }
+) -> Result<(), Refusal>
+    ensures { number_of result ≡ refusal (length_checks source.now.size x y source.now.t8s.now (grids_of source.now.grids) strengths) }
 {
+    let size = source.size;
     if bad_size(size) {
-        return 1;
+        return Err(Refusal::Size);
     }
-    let w = size.w;
-    let h = size.h;
-    if (w <= x) | (h <= y) {
-        return 2;
+    if (size.w <= x) | (size.h <= y) {
+        return Err(Refusal::Outside);
     }
-    let n = w * h;
-    if (strengths != 32 * n) | bad_flag_count(n, t8s) {
-        return 4;
+    let n = size.count();
+    if (strengths != 32 * n) | bad_flag_count(n, source.t8s.len()) {
+        return Err(Refusal::Grids);
     }
-    let bad = bad_lengths(16 * n, inter, nnz, ref0, mv0, ref1, mv1);
-    if bad | one_table(ref1, pictures0, pictures1) {
-        return 5;
+    let g = &source.grids;
+    let tables = one_table(
+        g.list1.references.len(),
+        g.list0.pictures.len(),
+        g.list1.pictures.len(),
+    );
+    if bad_lengths(16 * n, g) | tables {
+        return Err(Refusal::Blocks);
     }
-    0
+    Ok(())
 }
 
 // Check 7, of the flags.
-fn bad_flags(t8s: &[u8], w: usize, x: usize, y: usize) -> bool
-    requires { eqb (length t8s.now) 0 ≡ false → InPicture w x y (length t8s.now) }
-    ensures { result ≡ bad_flags t8s.now w x y }
+fn bad_flags(t8s: &[u8], place: Place) -> bool
+    requires { eqb (length t8s.now) 0 ≡ false → InPicture place.w place.x place.y (length t8s.now) }
+    ensures { result ≡ bad_flags t8s.now place.w place.x place.y }
 {
-    if t8s.len() == 0 {
-        return false;
-    }
-    over_near(t8s, w, x, y, 1)
+    !t8s.is_empty() && over_near(t8s, place, 1)
 }
 
-// What is sought is at a block that is read.
-#[tactic(auto, unfolding(crate::specs::Blocks::some_read))]
-pub fn some_read(sought: Sought, bytes: &[u8], refs: &[i8], w: usize, x: usize, y: usize) -> bool
-    requires in_grids { InGrids w x y (places_of sought bytes.now refs.now) }
-    requires in_grids_2 { InGrids w x y 589824 }
-    ensures { result ≡ some_read w x y (sought_at sought bytes.now refs.now) }
+// Check 10 in a list that may be empty.
+fn bad_list(list: &ReferenceList<'_>, blocks: Blocks) -> bool
+    requires { 0 < length list.now.references.now → InGrids blocks.place.w blocks.place.x blocks.place.y (length list.now.references.now) }
+    ensures { result ≡ some_read blocks.place.w blocks.place.x blocks.place.y (below_none list.now.references.now) }
 {
-    let at = 16 * (y * w) + 4 * x;
-    let own = own_have(sought, bytes, refs, at, 4 * w);
-    let left = beside_have(0 < x, sought, bytes, refs, at, 1, 4 * w);
-    let above = beside_have(0 < y, sought, bytes, refs, at, 4 * w, 1);
-    own | left | above
-}
-
-// Check 10 in a list that may be empty. No byte of `inter` is looked at.
-fn bad_list(inter: &[u8], refs: &[i8], w: usize, x: usize, y: usize) -> bool
-    requires in_grids { 0 < length refs.now → InGrids w x y (length refs.now) }
-    requires in_grids_2 { InGrids w x y 589824 }
-    ensures { result ≡ some_read w x y (below_none refs.now) }
-{
-    if 0 < refs.len() {
-        return some_read(Sought::BelowNone, inter, refs, w, x, y);
-    }
-    false
+    !list.references.is_empty() && some_read(blocks, &|i: usize| list.references[i] < -1)
 }
 
 // Check 22, of one entry of a table.
@@ -126,62 +105,54 @@ fn not_picture(p: i32) -> bool
 fn bad_table(pictures: &[i32]) -> bool
     ensures { result ≡ bad_table pictures.now }
 {
-    let mut found = false;
-    for i in 0..pictures.len() {
-        found = found | not_picture(pictures[i]);
-    }
-    found
+    any_bad(pictures, not_picture)
 }
 
 // Check 11.
 #[tactic(auto, unfolding(crate::specs::Checks::disagree))]
-pub fn disagreeing(inter: &[u8], w: usize, x: usize, y: usize) -> bool
-    requires { InGrids w x y (length inter.now) }
-    ensures { result ≡ disagree inter.now w x y }
+fn disagreeing(inter: &[u8], blocks: Blocks) -> bool
+    requires { InGrids blocks.place.w blocks.place.x blocks.place.y (length inter.now) }
+    ensures { result ≡ disagree inter.now blocks.place.w blocks.place.x blocks.place.y }
 {
-    let at = 16 * (y * w) + 4 * x;
-    let own = own_differ(inter, at, 4 * w);
-    let left = beside_differ(0 < x, inter, at, 1, 4 * w);
-    let above = beside_differ(0 < y, inter, at, 4 * w, 1);
+    let at = blocks.origin();
+    let stride = blocks.stride();
+    let own = some_own(blocks, &|i: usize| inter[i] != inter[at]);
+    let left = some_beside(blocks.left(), &|i: usize| inter[i] != inter[at - 1], stride);
+    let above = some_beside(
+        blocks.above(),
+        &|i: usize| inter[i] != inter[at - stride],
+        1,
+    );
     own | left | above
 }
 
-// Checks 7, 10, 22 and 11, which read values. None of them looks at counts or vectors.
-pub fn refuse_values(
-    size: Size,
-    x: usize,
-    y: usize,
-    t8s: &[u8],
-    inter: &[u8],
-    ref0: &[i8],
-    ref1: &[i8],
-    pictures0: &[i32],
-    pictures1: &[i32],
-) -> u32
-    requires in_picture { eqb (length t8s.now) 0 ≡ false → InPicture size.w x y (length t8s.now) }
-    requires in_grids { InGrids size.w x y (length inter.now) }
-    requires in_grids_2 { InGrids size.w x y (length ref0.now) }
-    requires in_grids_3 { 0 < length ref1.now → InGrids size.w x y (length ref1.now) }
-    requires in_grids_4 { InGrids size.w x y 589824 }
-    ensures { result ≡ refusal (value_checks size x y t8s.now (grids inter.now [] ref0.now [] ref1.now [] pictures0.now pictures1.now)) }
+// Check 7, of the blocks.
+fn bad_inter(inter: &[u8], blocks: Blocks) -> bool
+    requires { InGrids blocks.place.w blocks.place.x blocks.place.y (length inter.now) }
+    ensures { result ≡ some_read blocks.place.w blocks.place.x blocks.place.y (λ i. ltb 1 (get_or inter.now i 0)) }
 {
-    let w = size.w;
-    let bad_inter = some_read(Sought::Above(1), inter, ref0, w, x, y);
-    if bad_inter | bad_flags(t8s, w, x, y) {
-        return 7;
+    some_read(blocks, &|i: usize| 1 < inter[i])
+}
+
+// Checks 7, 10, 22 and 11, which read values. None of them looks at counts or vectors.
+pub fn check_values(blocks: Blocks, t8s: &[u8], g: &Grids<'_>) -> Result<(), Refusal>
+    requires flags { eqb (length t8s.now) 0 ≡ false → InPicture blocks.place.w blocks.place.x blocks.place.y (length t8s.now) }
+    requires inter { InGrids blocks.place.w blocks.place.x blocks.place.y (length g.now.inter.now) }
+    requires list0 { InGrids blocks.place.w blocks.place.x blocks.place.y (length g.now.list0.references.now) }
+    requires list1 { 0 < length g.now.list1.references.now → InGrids blocks.place.w blocks.place.x blocks.place.y (length g.now.list1.references.now) }
+    ensures { number_of result ≡ refusal (value_checks_at blocks.place.w blocks.place.x blocks.place.y t8s.now (grids_of g.now)) }
+{
+    if bad_inter(g.inter, blocks) | bad_flags(t8s, blocks.place) {
+        return Err(Refusal::Flag);
     }
-    let bad0 = bad_list(inter, ref0, w, x, y);
-    let bad1 = bad_list(inter, ref1, w, x, y);
-    if bad0 | bad1 {
-        return 10;
+    if bad_list(&g.list0, blocks) | bad_list(&g.list1, blocks) {
+        return Err(Refusal::Reference);
     }
-    let table0 = bad_table(pictures0);
-    let table1 = bad_table(pictures1);
-    if table0 | table1 {
-        return 22;
+    if bad_table(g.list0.pictures) | bad_table(g.list1.pictures) {
+        return Err(Refusal::Picture);
     }
-    if disagreeing(inter, w, x, y) {
-        return 11;
+    if disagreeing(g.inter, blocks) {
+        return Err(Refusal::Mixed);
     }
-    0
+    Ok(())
 }

@@ -1,52 +1,57 @@
 // Which blocks have coefficients. Under an 8x8 transform that is asked of the 8x8 block, so strengths depend
 // on the flags of the macroblock and of its left and upper neighbours.
-ghost use Rattle.std.specs.Prelude.{◌≡◌, true, false, ◌&&◌, ◌+◌, ◌-◌, ◌<◌, ◌≤◌, eqb, length};
+// Kept: (1) an edge by a byte's number k, and an odd row as the number 1: `across_flag` and `coded_by` of
+// specs/ have them so. (4) that the flags have the place (`InPicture`) is a fact of two values, by one name.
+ghost use Rattle.std.specs.Prelude.{◌≡◌, false, ◌+◌, ◌<◌, IfSome, eqb, length};
 ghost use Rattle.sizes.specs.Entries.{flag_at};
 ghost use Rattle.sizes.specs.Inner.{InPicture};
 ghost use Rattle.strengths.specs.Eights.{transforms_of, across_flag, two_by_two, coded_by, InCounts};
+ghost use Rattle.strengths.specs.Inner.{beside};
 
 use sizes::entries::flag_at;
+use sizes::places::Place;
 
-// The flags of a macroblock and of its left and upper neighbours; false where there is none.
-#[derive(Clone, Copy)]
+// The flag of a neighbour; false where there is none.
+fn flag_beside(t8s: &[u8], at: Option<usize>) -> bool
+    requires { IfSome at (λ i. eqb (length t8s.now) 0 ≡ false → i < length t8s.now) }
+    ensures { result ≡ beside at (flag_at t8s.now) }
+{
+    at.is_some_and(|i| flag_at(t8s, i))
+}
+
+// The flags of a macroblock and of its left and upper neighbours; false where there is none. Kept: (4) no
+// generic struct, of which QPs would be another: this one says that it is of flags, and specs/ name its
+// members.
+#[derive(Clone, Copy, Debug, PartialEq, Eq)]
 pub struct Transforms {
     pub own: bool,
     pub left: bool,
     pub above: bool,
 }
 
-// Where there is a neighbour d macroblocks before i, its flag.
-fn flag_before(there: bool, t8s: &[u8], i: usize, d: usize) -> bool
-    requires { (there ≡ true → d ≤ i) × (eqb (length t8s.now) 0 ≡ false → i < length t8s.now) }
-    ensures { result ≡ (there && flag_at t8s.now (i - d)) }
-{
-    if there {
-        return flag_at(t8s, i - d);
+impl Transforms {
+    // Those of a macroblock.
+    pub fn at(t8s: &[u8], place: Place) -> Transforms
+        requires in_picture { InPicture place.w place.x place.y 36864 }
+        requires in_picture_2 { eqb (length t8s.now) 0 ≡ false → InPicture place.w place.x place.y (length t8s.now) }
+        ensures { result ≡ transforms_of (flag_at t8s.now) place.w place.x place.y }
+    {
+        Transforms {
+            own: flag_at(t8s, place.index()),
+            left: flag_beside(t8s, place.left()),
+            above: flag_beside(t8s, place.upper()),
+        }
     }
-    false
-}
 
-// Those of macroblock (x, y).
-pub fn transforms_at(t8s: &[u8], w: usize, x: usize, y: usize) -> Transforms
-    requires in_picture { InPicture w x y 36864 }
-    requires in_picture_2 { eqb (length t8s.now) 0 ≡ false → InPicture w x y (length t8s.now) }
-    ensures { result ≡ transforms_of (flag_at t8s.now) w x y }
-{
-    let i = y * w + x;
-    let own = flag_at(t8s, i);
-    let left = flag_before(0 < x, t8s, i, 1);
-    let above = flag_before(0 < y, t8s, i, w);
-    Transforms { own, left, above }
-}
-
-// The flag of the macroblock before byte k's edge.
-pub fn across_flag(t: Transforms, k: usize) -> bool
-    ensures { result ≡ across_flag t k }
-{
-    if k / 4 % 4 != 0 {
-        return t.own;
+    // The flag of the macroblock before byte k's edge.
+    pub fn across(self, k: usize) -> bool
+        ensures { result ≡ across_flag self k }
+    {
+        if k / 4 % 4 != 0 {
+            return self.own;
+        }
+        if k < 16 { self.left } else { self.above }
     }
-    if k < 16 { t.left } else { t.above }
 }
 
 // A count in one of two rows of two, from `at` on.

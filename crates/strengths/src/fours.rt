@@ -1,21 +1,27 @@
-// The four strengths of an edge, written from `to` on. k is its first byte, s counts its segments.
-ghost use Rattle.std.specs.Prelude.{◌≡◌, false, cond, ◌+◌, ◌*◌, ◌%◌, ◌<◌, ◌≤◌, length};
-ghost use Rattle.motion.specs.Grids.{grids};
-ghost use Rattle.motion.specs.Inner.{Hold};
+// The four strengths of an edge, by what they depend on. s counts its segments.
+// Kept: (4) that the grids reach the place, and agree there, are facts of two values, by one name each. A
+// struct of both would be made twice a macroblock, in `check_at` and in `derive_at`, and functions that are
+// given one grid alone, as `is_coded` and `bad_inter`, would ask for the fact all the same. (4) that s is
+// below 4 is a fact of one number, which `fill_four` asks of no caller: its closures are told it, and a type
+// for it would be made for each segment. (1) an edge by its first byte k, its direction as `down` and an odd
+// row as the number 1: `edge_at`, `q_block` and `coded_by` of specs/ have them so.
+ghost use Rattle.std.specs.Prelude.{◌≡◌, ℕ, cond, ◌+◌, ◌*◌, ◌%◌, ◌<◌, ◌≤◌, length};
+ghost use Rattle.motion.specs.Lent.{grids_of};
 ghost use Rattle.strengths.specs.Blocks.{own_block};
 ghost use Rattle.strengths.specs.ByKind.{either_coded};
-ghost use Rattle.strengths.specs.Edges.{edge_at, moving_by, lone_by};
-ghost use Rattle.strengths.specs.Inner.{InGrids, filled};
-ghost use Rattle.strengths.specs.Strength.{border};
+ghost use Rattle.strengths.specs.Edges.{edge_at, IsEdge, moving_by, lone_by};
+ghost use Rattle.strengths.specs.Inner.{InGrids, GridsReach, filled};
+ghost use Rattle.strengths.specs.Strength.{p_block, q_block};
 
 use crate::asks::by_way;
-use crate::eights::{Transforms, across_flag, coded_by};
+use crate::blocks::Blocks;
+use crate::eights::{Transforms, coded_by};
 use motion::blocks::bs_inter;
-use motion::grids::{bs_lone, load};
+use motion::grids::{Grids, ReferenceList};
 
 // Where an edge lies: the block after its first segment, the steps from there back to the block across and
 // along to the next segment's, and which edge it is: vertical or not, and how many blocks from the border.
-#[derive(Clone, Copy)]
+#[derive(Clone, Copy, Debug, PartialEq, Eq)]
 pub struct Edge {
     pub q: usize,
     pub back: usize,
@@ -25,17 +31,16 @@ pub struct Edge {
 }
 
 // That of the edge which begins with byte k.
-fn edge_at(w: usize, x: usize, y: usize, k: usize) -> Edge
-    requires in_grids { InGrids w x y 589824 }
-    requires k_value { (k % 4 ≡ 0) × (k < 32) }
-    ensures { result ≡ edge_at w x y k }
+pub fn edge_at(blocks: Blocks, k: usize) -> Edge
+    requires { (k % 4 ≡ 0) × (k < 32) }
+    ensures { result ≡ edge_at blocks.place.w blocks.place.x blocks.place.y k }
 {
     let from = k / 4 % 4;
-    let back = by_way(k, 1, 4 * w);
+    let back = by_way(k, 1, blocks.stride());
     Edge {
-        q: 16 * (y * w) + 4 * x + from * back,
+        q: blocks.origin() + from * back,
         back,
-        along: by_way(k, 4 * w, 1),
+        along: by_way(k, blocks.stride(), 1),
         down: k < 16,
         from,
     }
@@ -49,193 +54,118 @@ fn odd_row(down: bool, s: usize, from: usize) -> usize
     if down { s % 2 } else { from % 2 }
 }
 
-// A block beside segment s has coefficients: p before the edge or q after it. Where neither macroblock is 8x8
-// their own counts tell. Of a row it matters whether it is odd, and one up from a row is as one down.
-fn coded_beside(
-    t: Transforms,
-    w: usize,
-    x: usize,
-    y: usize,
-    nnz: &[u8],
-    k: usize,
-    d: Edge,
-    s: usize,
-) -> bool
-    requires in_grids { InGrids w x y (length nnz.now) }
-    requires in_grids_2 { InGrids w x y 589824 }
-    requires k_value { (k % 4 ≡ 0) × (k < 32) }
-    requires d_value { (d ≡ edge_at w x y k) × (border x y k ≡ false) }
-    requires s_bound { s < 4 }
-    ensures { result ≡ either_coded nnz.now w t x y (k + s) }
-{
-    let q = d.q + s * d.along;
-    let p = q - d.back;
-    let across = across_flag(t, k);
-    if !(across | t.own) {
-        return (nnz[p] != 0) | (nnz[q] != 0);
+// The edge of a macroblock that begins with byte k and has blocks on both sides, with the flags of theirs.
+#[derive(Clone, Copy, Debug, PartialEq, Eq)]
+pub struct MbEdge {
+    pub blocks: Blocks,
+    pub t: Transforms,
+    pub k: usize,
+    pub way: Edge,
+    pub ghost is_edge: { IsEdge blocks.place.w blocks.place.x blocks.place.y k way },
+}
+
+impl MbEdge {
+    // The block after a segment.
+    fn q(self, s: usize) -> usize
+        requires { s < 4 }
+        ensures is { result ≡ q_block self.blocks.place.w self.blocks.place.x self.blocks.place.y (self.k + s) }
+        ensures last { result ≤ own_block self.blocks.place.w self.blocks.place.x self.blocks.place.y 3 3 }
+    {
+        self.way.q + s * self.way.along
     }
-    let before = coded_by(nnz, 4 * w, across, odd_row(d.down, s, d.from + 1), p);
-    let after = coded_by(nnz, 4 * w, t.own, odd_row(d.down, s, d.from), q);
-    before | after
+
+    // The block across.
+    fn p(self, s: usize) -> usize
+        requires { s < 4 }
+        ensures is { result ≡ p_block self.blocks.place.w self.blocks.place.x self.blocks.place.y (self.k + s) }
+        ensures last { result ≤ own_block self.blocks.place.w self.blocks.place.x self.blocks.place.y 3 3 }
+    {
+        self.way.q + s * self.way.along - self.way.back
+    }
+
+    // A block beside a segment has coefficients. Where neither macroblock is 8x8 their own counts tell. Of a
+    // row it matters whether it is odd, and one up from a row is as one down.
+    fn is_coded(self, nnz: &[u8], s: usize) -> bool
+        requires counts { InGrids self.blocks.place.w self.blocks.place.x self.blocks.place.y (length nnz.now) }
+        requires segment { s < 4 }
+        ensures { result ≡ either_coded nnz.now self.blocks.place.w self.t self.blocks.place.x self.blocks.place.y (self.k + s) }
+    {
+        let p = self.p(s);
+        let q = self.q(s);
+        let own = self.t.own;
+        let across = self.t.across(self.k);
+        if !(across | own) {
+            return (nnz[p] != 0) | (nnz[q] != 0);
+        }
+        let stride = self.blocks.stride();
+        let way = self.way;
+        let before = coded_by(nnz, stride, across, odd_row(way.down, s, way.from + 1), p);
+        let after = coded_by(nnz, stride, own, odd_row(way.down, s, way.from), q);
+        before | after
+    }
+
+    // A segment's strength, by coefficients alone,
+    pub fn by_coefficients(self, nnz: &[u8], s: usize) -> u8
+        requires counts { InGrids self.blocks.place.w self.blocks.place.x self.blocks.place.y (length nnz.now) }
+        requires segment { s < 4 }
+        ensures { result ≡ cond (either_coded nnz.now self.blocks.place.w self.t self.blocks.place.x self.blocks.place.y (self.k + s)) 2 0 }
+    {
+        2 * u8::from(self.is_coded(nnz, s))
+    }
+
+    // .. by motion in one list without a table, as most pictures have it,
+    fn by_one_list(self, limit: u8, nnz: &[u8], list: &ReferenceList<'_>, s: usize) -> u8
+        requires counts { InGrids self.blocks.place.w self.blocks.place.x self.blocks.place.y (length nnz.now) }
+        requires in_list { (own_block self.blocks.place.w self.blocks.place.x self.blocks.place.y 3 3 < length list.now.references.now) × (2 * own_block self.blocks.place.w self.blocks.place.x self.blocks.place.y 3 3 + 2 ≤ length list.now.vectors.now) }
+        requires segment { s < 4 }
+        ensures { result ≡ lone_by limit nnz.now list.now.references.now list.now.vectors.now self.blocks.place.w self.t self.blocks.place.x self.blocks.place.y (self.k + s) }
+    {
+        list.bs_lone(limit, self.is_coded(nnz, s), self.p(s), self.q(s))
+    }
+
+    // .. by motion in any. Coefficients are asked for first, so that where there are any no block is read.
+    #[tactic(auto, unfolding(motion::specs::Motion::inter_strength))]
+    fn by_motion(self, limit: u8, g: &Grids<'_>, s: usize) -> u8
+        requires within { GridsReach (grids_of g.now) self.blocks.place.w self.blocks.place.x self.blocks.place.y }
+        requires segment { s < 4 }
+        ensures { result ≡ moving_by limit (grids_of g.now) self.blocks.place.w self.t self.blocks.place.x self.blocks.place.y (self.k + s) }
+    {
+        if self.is_coded(g.nnz, s) {
+            return 2;
+        }
+        bs_inter(limit, false, g.block(self.p(s)), g.block(self.q(s)))
+    }
 }
 
-// By coefficients alone.
-fn coefficients(coded: bool) -> u8
-    ensures { result ≡ cond coded 2 0 }
+// Writes four values from `to` on. They are gathered first: what is read for them would have to be read again
+// after each write. Kept: (4) s is a segment's number, which the closure is asked about; and `filled` says
+// four single writes, where by `copy_from_slice` (tried) a law between both would be owed.
+pub fn fill_four<F: Fn(usize) -> u8>(strengths: &mut [u8], to: usize, value: F)
+    requires room { to + 4 ≤ length strengths.old }
+    requires asked { (s : ℕ) → s < 4 → F.pre value s }
+    ensures { (f : ℕ → ℕ) → ((s n : ℕ) → s < 4 → F.post value s n → n ≡ f s) → strengths.new ≡ filled 4 to f strengths.old }
 {
-    if coded { 2 } else { 0 }
-}
-
-// One value.
-#[tactic(auto, using(laws::proofs::Loop::loops))]
-pub fn four_same(v: u8, strengths: &mut [u8], to: usize)
-    requires { to + 4 ≤ length strengths.old }
-    ensures { strengths.new ≡ filled 4 to (λ s. v) strengths.old }
-{
+    let mut four = [0; 4];
     for s in 0..4usize {
-        strengths[to + s] = v;
+        four[s] = value(s);
+    }
+    for k in 0..4usize {
+        strengths[to + k] = four[k];
     }
 }
 
-// By coefficients.
-#[tactic(auto, using(laws::proofs::Loop::loops))]
-pub fn four_coded(
-    t: Transforms,
-    w: usize,
-    x: usize,
-    y: usize,
-    nnz: &[u8],
-    k: usize,
-    strengths: &mut [u8],
-    to: usize,
-)
-    requires in_grids { InGrids w x y (length nnz.now) }
-    requires in_grids_2 { InGrids w x y 589824 }
-    requires k_value { (k % 4 ≡ 0) × (k < 32) }
-    requires k_value_2 { border x y k ≡ false }
-    requires to_in_bounds { to + 4 ≤ length strengths.old }
-    ensures { strengths.new ≡ filled 4 to (λ s. cond (either_coded nnz.now w t x y (k + s)) 2 0) strengths.old }
+// By motion, in one list where that serves: the loop is then small enough for the compiler to write it out
+// four times.
+pub fn four_by_motion(limit: u8, edge: MbEdge, g: &Grids<'_>, strengths: &mut [u8], to: usize)
+    requires within { GridsReach (grids_of g.now) edge.blocks.place.w edge.blocks.place.x edge.blocks.place.y }
+    requires room { to + 4 ≤ length strengths.old }
+    ensures { strengths.new ≡ filled 4 to (λ s. moving_by limit (grids_of g.now) edge.blocks.place.w edge.t edge.blocks.place.x edge.blocks.place.y (edge.k + s)) strengths.old }
 {
-    let d = edge_at(w, x, y, k);
-    for s in 0..4usize {
-        let v = coefficients(coded_beside(t, w, x, y, nnz, k, d, s));
-        strengths[to + s] = v;
-    }
-}
-
-// By motion in one list without a table, as most pictures have it: small enough for the compiler to write it
-// out four times.
-#[tactic(auto, using(laws::proofs::Loop::loops))]
-fn four_lone(
-    limit: u8,
-    t: Transforms,
-    w: usize,
-    x: usize,
-    y: usize,
-    nnz: &[u8],
-    ref0: &[i8],
-    mv0: &[i16],
-    k: usize,
-    strengths: &mut [u8],
-    to: usize,
-)
-    requires in_grids { InGrids w x y (length nnz.now) }
-    requires in_grids_2 { InGrids w x y 589824 }
-    requires y_in_bounds { (own_block w x y 3 3 < length ref0.now) × (2 * own_block w x y 3 3 + 2 ≤ length mv0.now) }
-    requires k_value { (k % 4 ≡ 0) × (k < 32) }
-    requires k_value_2 { border x y k ≡ false }
-    requires to_in_bounds { to + 4 ≤ length strengths.old }
-    ensures { strengths.new ≡ filled 4 to (λ s. lone_by limit nnz.now ref0.now mv0.now w t x y (k + s)) strengths.old }
-{
-    let d = edge_at(w, x, y, k);
-    for s in 0..4usize {
-        let q = d.q + s * d.along;
-        let coded = coded_beside(t, w, x, y, nnz, k, d, s);
-        let v = bs_lone(limit, coded, ref0, mv0, q - d.back, q);
-        strengths[to + s] = v;
-    }
-}
-
-// By motion in any.
-#[tactic(auto, using(laws::proofs::Loop::loops))]
-fn four_moving<'a>(
-    limit: u8,
-    t: Transforms,
-    w: usize,
-    x: usize,
-    y: usize,
-    inter: &[u8],
-    nnz: &[u8],
-    ref0: &[i8],
-    mv0: &'a [i16],
-    ref1: &[i8],
-    mv1: &'a [i16],
-    pictures0: &[i32],
-    pictures1: &[i32],
-    k: usize,
-    strengths: &mut [u8],
-    to: usize,
-)
-    requires hold { Hold inter.now ref0.now mv0.now ref1.now mv1.now (own_block w x y 3 3 + 1) }
-    requires in_grids { InGrids w x y (length nnz.now) }
-    requires in_grids_2 { InGrids w x y 589824 }
-    requires k_value { (k % 4 ≡ 0) × (k < 32) }
-    requires k_value_2 { border x y k ≡ false }
-    requires to_in_bounds { to + 4 ≤ length strengths.old }
-    ensures { strengths.new ≡ filled 4 to (λ s. moving_by limit (grids inter.now nnz.now ref0.now mv0.now ref1.now mv1.now pictures0.now pictures1.now) w t x y (k + s)) strengths.old }
-{
-    let d = edge_at(w, x, y, k);
-    for s in 0..4usize {
-        let q = d.q + s * d.along;
-        let coded = coded_beside(t, w, x, y, nnz, k, d, s);
-        let a = load(
-            inter,
-            ref0,
-            mv0,
-            ref1,
-            mv1,
-            pictures0,
-            pictures1,
-            q - d.back,
-        );
-        let b = load(inter, ref0, mv0, ref1, mv1, pictures0, pictures1, q);
-        strengths[to + s] = bs_inter(limit, coded, a, b);
-    }
-}
-
-// By whichever serves.
-pub fn four_by_motion<'a>(
-    limit: u8,
-    t: Transforms,
-    w: usize,
-    x: usize,
-    y: usize,
-    inter: &[u8],
-    nnz: &[u8],
-    ref0: &[i8],
-    mv0: &'a [i16],
-    ref1: &[i8],
-    mv1: &'a [i16],
-    pictures0: &[i32],
-    pictures1: &[i32],
-    k: usize,
-    strengths: &mut [u8],
-    to: usize,
-)
-    requires hold { Hold inter.now ref0.now mv0.now ref1.now mv1.now (own_block w x y 3 3 + 1) }
-    requires in_grids { InGrids w x y (length nnz.now) }
-    requires in_grids_2 { InGrids w x y 589824 }
-    requires k_value { (k % 4 ≡ 0) × (k < 32) }
-    requires k_value_2 { border x y k ≡ false }
-    requires to_in_bounds { to + 4 ≤ length strengths.old }
-    ensures { strengths.new ≡ filled 4 to (λ s. moving_by limit (grids inter.now nnz.now ref0.now mv0.now ref1.now mv1.now pictures0.now pictures1.now) w t x y (k + s)) strengths.old }
-{
-    if (ref1.len() == 0) & (pictures0.len() == 0) {
-        four_lone(limit, t, w, x, y, nnz, ref0, mv0, k, strengths, to);
+    if g.list1.references.is_empty() & g.list0.pictures.is_empty() {
+        fill_four(strengths, to, |s: usize| {
+            edge.by_one_list(limit, g.nnz, &g.list0, s)
+        });
     } else {
-        four_moving(
-            limit, t, w, x, y, inter, nnz, ref0, mv0, ref1, mv1, pictures0, pictures1, k,
-            strengths, to,
-        );
+        fill_four(strengths, to, |s: usize| edge.by_motion(limit, g, s));
     }
 }

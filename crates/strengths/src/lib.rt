@@ -2,7 +2,11 @@
 // numbered refusals.
 #![tactic(auto)]
 
+use motion::grids::Grids;
+use sizes::Size;
+
 pub mod asks;
+pub mod blocks;
 pub mod calls;
 pub mod checks;
 pub mod derive;
@@ -14,3 +18,14 @@ pub mod own;
 pub mod stored;
 pub mod stretches;
 pub mod walks;
+
+// What strengths are derived from: a picture's size, whether it is a field, its 8x8 flags, of which there may
+// be none, and its grids of blocks. Kept: (1) `field` and not a `Part`: `mode_of` of specs/ asks no more, and
+// no strength call is told a parity, of which it would have to answer 19.
+#[derive(Clone, Copy, Debug, PartialEq, Eq)]
+pub struct Source<'a> {
+    pub size: Size,
+    pub field: bool,
+    pub t8s: &'a [u8],
+    pub grids: Grids<'a>,
+}

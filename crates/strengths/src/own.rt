@@ -1,92 +1,31 @@
 // Whether the own blocks have one motion: by the stored numbers, else by the pictures that references name.
-ghost use Rattle.std.specs.Prelude.{◌≡◌, ◌+◌, ◌*◌};
-ghost use Rattle.laws.specs.Some.{every};
-ghost use Rattle.motion.specs.Grids.{block_read};
-ghost use Rattle.motion.specs.Inner.{Hold};
+// Kept: (4) that the grids hold the blocks (`HoldBlocks`) is a fact of grids and place, by one name.
+ghost use Rattle.std.specs.Prelude.{◌≡◌, ◌+◌};
+ghost use Rattle.motion.specs.Grids.{blk_at};
+ghost use Rattle.motion.specs.Lent.{grids_of};
+ghost use Rattle.motion.specs.Inner.{HoldBlocks};
 ghost use Rattle.motion.specs.Motion.{same_motion};
+ghost use Rattle.strengths.specs.Blocks.{origin, own_block};
+ghost use Rattle.strengths.specs.Kinds.{every_own};
 
+use crate::blocks::Blocks;
 use crate::stored::own_alike;
-use motion::blocks::{Blk, same_motion};
-use motion::grids::load;
-
-// Four of a row, then four rows.
-#[tactic(auto, using(laws::proofs::Some::tests))]
-fn row_same<'a>(
-    first: Blk,
-    inter: &[u8],
-    ref0: &[i8],
-    mv0: &'a [i16],
-    ref1: &[i8],
-    mv1: &'a [i16],
-    pictures0: &[i32],
-    pictures1: &[i32],
-    at: usize,
-) -> bool
-    requires { Hold inter.now ref0.now mv0.now ref1.now mv1.now (at + 4) }
-    ensures { result ≡ every 4 (λ k. same_motion (block_read inter.now ref0.now mv0.now ref1.now mv1.now pictures0.now pictures1.now (at + k)) first) }
-{
-    let mut same = true;
-    for k in 0..4usize {
-        let b = load(inter, ref0, mv0, ref1, mv1, pictures0, pictures1, at + k);
-        same = same & same_motion(b, first);
-    }
-    same
-}
+use crate::walks::some_own;
+use motion::grids::Grids;
 
 // By what the references name, block by block.
-#[tactic(auto, using(laws::proofs::Some::tests))]
-fn own_same_named<'a>(
-    inter: &[u8],
-    ref0: &[i8],
-    mv0: &'a [i16],
-    ref1: &[i8],
-    mv1: &'a [i16],
-    pictures0: &[i32],
-    pictures1: &[i32],
-    at: usize,
-    stride: usize,
-) -> bool
-    requires { Hold inter.now ref0.now mv0.now ref1.now mv1.now (at + 3 * stride + 4) }
-    ensures { result ≡ every 4 (λ j. every 4 (λ k. same_motion (block_read inter.now ref0.now mv0.now ref1.now mv1.now pictures0.now pictures1.now (at + j * stride + k)) (block_read inter.now ref0.now mv0.now ref1.now mv1.now pictures0.now pictures1.now at))) }
+fn own_same_named(g: &Grids<'_>, blocks: Blocks) -> bool
+    requires { HoldBlocks (grids_of g.now) (own_block blocks.place.w blocks.place.x blocks.place.y 3 3 + 1) }
+    ensures { result ≡ every_own blocks.place.w blocks.place.x blocks.place.y (λ i. same_motion (blk_at (grids_of g.now) i) (blk_at (grids_of g.now) (origin blocks.place.w blocks.place.x blocks.place.y))) }
 {
-    let first = load(inter, ref0, mv0, ref1, mv1, pictures0, pictures1, at);
-    let mut same = true;
-    for j in 0..4usize {
-        same = same
-            & row_same(
-                first,
-                inter,
-                ref0,
-                mv0,
-                ref1,
-                mv1,
-                pictures0,
-                pictures1,
-                at + j * stride,
-            );
-    }
-    same
+    let first = g.block(blocks.origin());
+    !some_own(blocks, &|i: usize| !g.block(i).has_same_motion(first))
 }
 
 // The stored numbers are compared first: where they are one for all blocks, no table need be asked.
-pub fn own_same<'a>(
-    inter: &[u8],
-    ref0: &[i8],
-    mv0: &'a [i16],
-    ref1: &[i8],
-    mv1: &'a [i16],
-    pictures0: &[i32],
-    pictures1: &[i32],
-    at: usize,
-    stride: usize,
-) -> bool
-    requires { Hold inter.now ref0.now mv0.now ref1.now mv1.now (at + 3 * stride + 4) }
-    ensures { result ≡ every 4 (λ j. every 4 (λ k. same_motion (block_read inter.now ref0.now mv0.now ref1.now mv1.now pictures0.now pictures1.now (at + j * stride + k)) (block_read inter.now ref0.now mv0.now ref1.now mv1.now pictures0.now pictures1.now at))) }
+pub fn own_same(g: &Grids<'_>, blocks: Blocks) -> bool
+    requires { HoldBlocks (grids_of g.now) (own_block blocks.place.w blocks.place.x blocks.place.y 3 3 + 1) }
+    ensures { result ≡ every_own blocks.place.w blocks.place.x blocks.place.y (λ i. same_motion (blk_at (grids_of g.now) i) (blk_at (grids_of g.now) (origin blocks.place.w blocks.place.x blocks.place.y))) }
 {
-    if own_alike(ref0, mv0, ref1, mv1, at, stride) {
-        return true;
-    }
-    own_same_named(
-        inter, ref0, mv0, ref1, mv1, pictures0, pictures1, at, stride,
-    )
+    own_alike(g, blocks) || own_same_named(g, blocks)
 }

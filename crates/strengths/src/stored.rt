@@ -1,86 +1,53 @@
 // A quick test of a macroblock's own blocks: it compares stored numbers and asks no table what a reference
-// names. Where it passes the blocks have one motion. References and vectors are walked apart and gathered
-// without leaving early, which costs least.
-ghost use Rattle.std.specs.Prelude.{◌≡◌, ◌&&◌, ◌+◌, ◌*◌, ◌<◌, pos, length, get_or};
+// names. Where it passes the blocks have one motion. Kept: (4) that a list holds the blocks (`HoldsOrEmpty`)
+// is a fact of list and place, by one name.
+ghost use Rattle.std.specs.Prelude.{◌≡◌, ◌&&◌, ◌+◌, ◌*◌, ◌<◌, ◌≤◌, length};
 ghost use Rattle.laws.specs.Equal.{eq_z};
-ghost use Rattle.laws.specs.Some.{every};
-ghost use Rattle.motion.specs.Grids.{ref_at};
-ghost use Rattle.motion.specs.Inner.{Optional};
+ghost use Rattle.motion.specs.Inner.{stored_of, HoldsOrEmpty};
+ghost use Rattle.strengths.specs.Blocks.{origin, own_block};
 ghost use Rattle.strengths.specs.Inner.{one_stored};
 
-// Four references are all r.
-fn four_refs(refs: &[i8], r: i8, at: usize) -> bool
-    requires { at + 3 < length refs.now }
-    ensures { result ≡ every 4 (λ k. eq_z (ref_at refs.now (at + k)) r) }
+use crate::blocks::Blocks;
+use crate::walks::some_own;
+use motion::grids::{Grids, ReferenceList};
+
+// A list stores this reference of block i. Kept: (4) compared by hand, as the vector below: each reads one
+// array, where a comparison of what is `stored` of two blocks reads both.
+fn has_reference(list: &ReferenceList<'_>, i: usize, reference: i32) -> bool
+    requires { i < length list.now.references.now }
+    ensures { result ≡ eq_z (stored_of list.now i).reference reference }
 {
-    (refs[at] == r) & (refs[at + 1] == r) & (refs[at + 2] == r) & (refs[at + 3] == r)
+    i32::from(list.references[i]) == reference
 }
 
-// Four rows of four references are all as the first.
-#[tactic(auto, using(laws::proofs::Some::tests))]
-fn refs_alike(refs: &[i8], at: usize, stride: usize) -> bool
-    requires { at + 3 * stride + 3 < length refs.now }
-    ensures { result ≡ every 4 (λ j. every 4 (λ k. eq_z (ref_at refs.now (at + j * stride + k)) (ref_at refs.now at))) }
+// .. this vector.
+fn has_vector(list: &ReferenceList<'_>, i: usize, x: i16, y: i16) -> bool
+    requires { 2 * i + 2 ≤ length list.now.vectors.now }
+    ensures { result ≡ (eq_z (stored_of list.now i).x x && eq_z (stored_of list.now i).y y) }
 {
-    let r = refs[at];
-    let mut same = true;
-    for j in 0..4usize {
-        same = same & four_refs(refs, r, at + j * stride);
-    }
-    same
+    (list.vectors[2 * i] == x) & (list.vectors[2 * i + 1] == y)
 }
 
-// Four vectors are all (x, y).
-#[tactic(auto, using(laws::proofs::Some::tests))]
-fn row_alike(mvs: &[i16], x: i16, y: i16, at: usize) -> bool
-    requires { 2 * (at + 3) + 1 < length mvs.now }
-    ensures { result ≡ every 4 (λ k. eq_z (get_or mvs.now (2 * (at + k)) (pos 0)) x && eq_z (get_or mvs.now (2 * (at + k) + 1) (pos 0)) y) }
+// One list holds the same of all 16 blocks. An empty one does. References and vectors, two arrays, are walked
+// apart.
+fn list_alike(list: &ReferenceList<'_>, blocks: Blocks) -> bool
+    requires { HoldsOrEmpty list.now (own_block blocks.place.w blocks.place.x blocks.place.y 3 3 + 1) }
+    ensures { result ≡ one_stored list.now.references.now list.now.vectors.now blocks.place.w blocks.place.x blocks.place.y }
 {
-    let mut same = true;
-    for k in 0..4usize {
-        same = same & (mvs[2 * (at + k)] == x) & (mvs[2 * (at + k) + 1] == y);
-    }
-    same
-}
-
-// Four rows of four vectors are all as the first.
-#[tactic(auto, using(laws::proofs::Some::tests))]
-fn vectors_alike(mvs: &[i16], at: usize, stride: usize) -> bool
-    requires { 2 * (at + 3 * stride + 3) + 1 < length mvs.now }
-    ensures { result ≡ every 4 (λ j. every 4 (λ k. eq_z (get_or mvs.now (2 * (at + j * stride + k)) (pos 0)) (get_or mvs.now (2 * at) (pos 0)) && eq_z (get_or mvs.now (2 * (at + j * stride + k) + 1) (pos 0)) (get_or mvs.now (2 * at + 1) (pos 0)))) }
-{
-    let x = mvs[2 * at];
-    let y = mvs[2 * at + 1];
-    let mut same = true;
-    for j in 0..4usize {
-        same = same & row_alike(mvs, x, y, at + j * stride);
-    }
-    same
-}
-
-// One list holds the same of all 16 blocks. An empty one does.
-fn list_alike(refs: &[i8], mvs: &[i16], at: usize, stride: usize) -> bool
-    requires { Optional refs.now mvs.now (at + 3 * stride + 4) }
-    ensures { result ≡ one_stored refs.now mvs.now at stride }
-{
-    if refs.len() == 0 {
+    if list.references.is_empty() {
         return true;
     }
-    refs_alike(refs, at, stride) & vectors_alike(mvs, at, stride)
+    let first = list.stored(blocks.origin());
+    let references = some_own(blocks, &|i: usize| !has_reference(list, i, first.reference));
+    let vectors = some_own(blocks, &|i: usize| !has_vector(list, i, first.x, first.y));
+    !(references | vectors)
 }
 
 // Both lists do.
-pub fn own_alike(
-    ref0: &[i8],
-    mv0: &[i16],
-    ref1: &[i8],
-    mv1: &[i16],
-    at: usize,
-    stride: usize,
-) -> bool
-    requires optional { Optional ref0.now mv0.now (at + 3 * stride + 4) }
-    requires optional_2 { Optional ref1.now mv1.now (at + 3 * stride + 4) }
-    ensures { result ≡ (one_stored ref0.now mv0.now at stride && one_stored ref1.now mv1.now at stride) }
+pub fn own_alike(g: &Grids<'_>, blocks: Blocks) -> bool
+    requires list0 { HoldsOrEmpty g.now.list0 (own_block blocks.place.w blocks.place.x blocks.place.y 3 3 + 1) }
+    requires list1 { HoldsOrEmpty g.now.list1 (own_block blocks.place.w blocks.place.x blocks.place.y 3 3 + 1) }
+    ensures { result ≡ (one_stored g.now.list0.references.now g.now.list0.vectors.now blocks.place.w blocks.place.x blocks.place.y && one_stored g.now.list1.references.now g.now.list1.vectors.now blocks.place.w blocks.place.x blocks.place.y) }
 {
-    list_alike(ref0, mv0, at, stride) & list_alike(ref1, mv1, at, stride)
+    list_alike(&g.list0, blocks) & list_alike(&g.list1, blocks)
 }

@@ -1,115 +1,61 @@
-// Walks over four places of a grid, or over the 4 by 4 blocks of a macroblock. Bytes are gathered without
-// leaving early, which costs least; the search for blocks that disagree is left at the first one.
-ghost use Rattle.std.specs.Prelude.{◌≡◌, true, not, ◌&&◌, ◌+◌, ◌-◌, ◌*◌, ◌<◌, ◌≤◌, eqb, length, get_or};
+// Walks over the blocks that a macroblock's strengths read, for one whose index passes a test. None is left
+// out where one was found, which costs least.
+ghost use Rattle.std.specs.Prelude.{◌≡◌, ℕ, Bool, ◌+◌, ◌*◌, ◌<◌, IfSome};
 ghost use Rattle.laws.specs.Some.{some};
-ghost use Rattle.strengths.specs.Blocks.{beside_block};
-ghost use Rattle.strengths.specs.Inner.{sought_at, places_of};
+ghost use Rattle.strengths.specs.Blocks.{own_block, some_read};
+ghost use Rattle.strengths.specs.Inner.{beside};
+ghost use Rattle.strengths.specs.Reads.{Beside};
 
-// What a walk looks for: a byte above a bound, or a reference number below -1.
-#[derive(Clone, Copy)]
-pub enum Sought {
-    Above(u8),
-    BelowNone,
-}
+use crate::blocks::Blocks;
 
-// It is at place i of the grid that is looked at.
-fn sought_at(sought: Sought, bytes: &[u8], refs: &[i8], i: usize) -> bool
-    requires { i < places_of sought bytes.now refs.now }
-    ensures { result ≡ sought_at sought bytes.now refs.now i }
-{
-    match sought {
-        Sought::Above(top) => top < bytes[i],
-        Sought::BelowNone => refs[i] < -1,
-    }
-}
-
-// It is at one of four places. The second bound is for the sums, which do not know what is sought.
-#[tactic(auto, using(laws::proofs::Some::tests))]
-pub fn four_have(sought: Sought, bytes: &[u8], refs: &[i8], at: usize, step: usize) -> bool
-    requires step_bound { at + 3 * step < places_of sought bytes.now refs.now }
-    requires step_bound_2 { at + 3 * step < 1000000 }
-    ensures { result ≡ some 4 (λ k. sought_at sought bytes.now refs.now (at + k * step)) }
+// Four, `step` apart. Kept: (4) k is a block's number, by which its place is computed; no slice is gone over.
+fn some_of_four<F: Fn(usize) -> bool>(test: &F, at: usize, step: usize) -> bool
+    requires asked { (k : ℕ) → k < 4 → F.pre test.now (at + k * step) }
+    requires small { at + 3 * step < 1000000 }
+    ensures { (p : ℕ → Bool) → ((k : ℕ) (b : Bool) → k < 4 → F.post test.now (at + k * step) b → b ≡ p (at + k * step)) → result ≡ some 4 (λ k. p (at + k * step)) }
 {
     let mut found = false;
     for k in 0..4usize {
-        found = found | sought_at(sought, bytes, refs, at + k * step);
+        found |= test(at + k * step);
     }
     found
 }
 
-// .. of four rows of four.
-#[tactic(auto, using(laws::proofs::Some::tests))]
-pub fn own_have(sought: Sought, bytes: &[u8], refs: &[i8], at: usize, stride: usize) -> bool
-    requires stride_bound { at + 3 * stride + 3 < places_of sought bytes.now refs.now }
-    requires stride_bound_2 { at + 3 * stride + 3 < 1000000 }
-    ensures { result ≡ some 4 (λ j. some 4 (λ k. sought_at sought bytes.now refs.now (at + j * stride + k))) }
+// The 16 of the macroblock. Kept: (4) r and c are a block's row and column, by which its place is computed;
+// no slice is gone over.
+pub fn some_own<F: Fn(usize) -> bool>(blocks: Blocks, test: &F) -> bool
+    requires { (r c : ℕ) → r < 4 → c < 4 → F.pre test.now (own_block blocks.place.w blocks.place.x blocks.place.y r c) }
+    ensures { (p : ℕ → Bool) → ((r c : ℕ) (b : Bool) → r < 4 → c < 4 → F.post test.now (own_block blocks.place.w blocks.place.x blocks.place.y r c) b → b ≡ p (own_block blocks.place.w blocks.place.x blocks.place.y r c)) → result ≡ some 4 (λ r. some 4 (λ c. p (own_block blocks.place.w blocks.place.x blocks.place.y r c))) }
 {
     let mut found = false;
-    for j in 0..4usize {
-        found = found | four_have(sought, bytes, refs, at + j * stride, 1);
-    }
-    found
-}
-
-// Some of four bytes differs from the first.
-#[tactic(auto, using(laws::proofs::Some::tests))]
-pub fn four_differ(s: &[u8], at: usize, step: usize) -> bool
-    requires { at + 3 * step < length s.now }
-    ensures { result ≡ some 4 (λ k. not (eqb (get_or s.now (at + k * step) 0) (get_or s.now at 0))) }
-{
-    let first = s[at];
-    let mut found = false;
-    for k in 0..4usize {
-        found = found | (s[at + k * step] != first);
-    }
-    found
-}
-
-// Some of the 4 by 4 differs from the first: both walks stop there.
-#[tactic(auto, using(laws::proofs::Some::tests))]
-pub fn own_differ(s: &[u8], at: usize, stride: usize) -> bool
-    requires { at + 3 * stride + 3 < length s.now }
-    ensures { result ≡ some 4 (λ j. some 4 (λ k. not (eqb (get_or s.now (at + j * stride + k) 0) (get_or s.now at 0)))) }
-{
-    let first = s[at];
-    let mut found = false;
-    'rows: for j in 0..4usize {
-        for k in 0..4usize {
-            if s[at + j * stride + k] != first {
-                found = true;
-                break 'rows;
-            }
+    for r in 0..4usize {
+        for c in 0..4usize {
+            found |= test(blocks.block(r, c));
         }
     }
     found
 }
 
-// The same beside a macroblock, where there is a neighbour: four places, the first `back` before `at`.
-pub fn beside_have(
-    go: bool,
-    sought: Sought,
-    bytes: &[u8],
-    refs: &[i8],
-    at: usize,
-    back: usize,
-    step: usize,
-) -> bool
-    requires { go ≡ true → (back ≤ at) × (at - back + 3 * step < places_of sought bytes.now refs.now) × (at - back + 3 * step < 1000000) }
-    ensures { result ≡ (go && some 4 (λ k. sought_at sought bytes.now refs.now (beside_block at back step k))) }
+// The four beside it, where it has a neighbour: the first of them, and the others `step` apart. Kept: (3) by
+// `is_some_and` it stayed open that what its closure answers is what the test says of the four.
+pub fn some_beside<F: Fn(usize) -> bool>(first: Option<usize>, test: &F, step: usize) -> bool
+    requires asked { IfSome first (λ i. (k : ℕ) → k < 4 → F.pre test.now (i + k * step)) }
+    requires small { IfSome first (λ i. i + 3 * step < 1000000) }
+    ensures { (p : ℕ → Bool) → IfSome first (λ i. (k : ℕ) (b : Bool) → k < 4 → F.post test.now (i + k * step) b → b ≡ p (i + k * step)) → result ≡ beside first (λ i. some 4 (λ k. p (i + k * step))) }
 {
-    if go {
-        return four_have(sought, bytes, refs, at - back, step);
+    match first {
+        Some(at) => some_of_four(test, at, step),
+        None => false,
     }
-    false
 }
 
-// Some of the four beside a macroblock differs from the first of them.
-pub fn beside_differ(go: bool, s: &[u8], at: usize, back: usize, step: usize) -> bool
-    requires { go ≡ true → (back ≤ at) × (at - back + 3 * step < length s.now) }
-    ensures { result ≡ (go && some 4 (λ k. not (eqb (get_or s.now (beside_block at back step k) 0) (get_or s.now (at - back) 0)))) }
+// All of them.
+pub fn some_read<F: Fn(usize) -> bool>(blocks: Blocks, test: &F) -> bool
+    requires { (i : ℕ) → Beside blocks.place.w blocks.place.x blocks.place.y i → F.pre test.now i }
+    ensures { (p : ℕ → Bool) → ((i : ℕ) (b : Bool) → Beside blocks.place.w blocks.place.x blocks.place.y i → F.post test.now i b → b ≡ p i) → result ≡ some_read blocks.place.w blocks.place.x blocks.place.y p }
 {
-    if go {
-        return four_differ(s, at - back, step);
-    }
-    false
+    let own = some_own(blocks, test);
+    let left = some_beside(blocks.left(), test, blocks.stride());
+    let above = some_beside(blocks.above(), test, 1);
+    own | left | above
 }

@@ -40,9 +40,9 @@ unfolding lines.line_cases visit_cases
 twelve-hold = holds-join lines.line_cases (motion.motion_cases ++ visit_cases) lines-proved.line-cases-hold (holds-join motion.motion_cases visit_cases motion-proved.cases-hold visit-cases-hold)
 
 -- none is missing
-abbrev pub number_of : Case → ℕ
-number_of c = c.number
+abbrev pub number_of_case : Case → ℕ
+number_of_case c = c.number
 
-pub all-twelve : map number_of twelve ≡ 1 ∷ 2 ∷ 3 ∷ 4 ∷ 5 ∷ 6 ∷ 7 ∷ 8 ∷ 9 ∷ 10 ∷ 11 ∷ 12 ∷ []
+pub all-twelve : map number_of_case twelve ≡ 1 ∷ 2 ∷ 3 ∷ 4 ∷ 5 ∷ 6 ∷ 7 ∷ 8 ∷ 9 ∷ 10 ∷ 11 ∷ 12 ∷ []
 unfolding lines.line_cases visit_cases
 all-twelve = refl

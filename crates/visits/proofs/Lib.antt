@@ -29,8 +29,11 @@ pub mod OneSlice
 pub mod Outcome
 pub mod Progress
 pub mod Refused
+pub mod Replays
 pub mod Rounds
 pub mod RoundsRun
+pub mod SliceExamples
+pub mod SliceRefused
 pub mod Smallest
 pub mod Unique
 pub mod Unseen

@@ -1,7 +1,7 @@
 -- What a visit promises: one outcome only; and, for its code, a law for each way out. Assumes nothing.
 use mathlib.Core.Path.{◌≡◌, refl, sym, ap, ◌∙◌}
 use mathlib.Core.Logic.{◌≢◌}
-use mathlib.Core.Bool.{true, false, not, ◌&&◌, ◌||◌}
+use mathlib.Core.Bool.{true, false, cond, not, ◌&&◌, ◌||◌}
 use mathlib.Core.List.{List}
 use Prim.Native.Nat.{ℕ, ◌+◌, ◌-◌, ◌*◌, ◌<◌}
 use native.Mathlib.Omega.{arith}
@@ -16,6 +16,10 @@ module _ (W : ℕ) {S : Type 0} (early : State S → At → ℕ) (s : State S) (
   pub answer-early : early s r ≢ 0 → answer W early s r ≡ early s r
   unfolding answer
   answer-early h = rw (ne_eqb (early s r) 0 h)
+
+  pub answer-late : early s r ≡ 0 → answer W early s r ≡ cond (marked W s.1 r.0 r.1) 13 (cond (waiting W s.1 r.0 r.1) 14 0)
+  unfolding answer
+  answer-late e = rw (eq-eqb (early s r) 0 e)
 
   pub answer-13 : early s r ≡ 0 → marked W s.1 r.0 r.1 ≡ true → answer W early s r ≡ 13
   unfolding answer

@@ -1,33 +1,16 @@
--- Apart: no promise to a caller of the public calls rests on it. The checks that a visit with slices and one
--- without share; what the loop of `replay` promises.
-use Rattle.std.specs.Prelude.{ℕ, ◌*◌, ◌≡◌, Bool, not, ◌||◌, List, ◌++◌, eqb, length, take, drop}
-use Rattle.laws.specs.Refusal.{refusal}
-use Rattle.edges.specs.Picture.{Planes}
-use Rattle.sizes.specs.Sizes.{outside_of}
-use Rattle.sizes.specs.declared.Part.{Part}
-use Rattle.sizes.specs.declared.Size.{Size}
-use Rattle.pictures.specs.Checks.{Lent}
-use Rattle.pictures.specs.Inner.{shared_checks}
+-- Apart: no promise to a caller of the public calls rests on it. The checks of a visit that read entries, and
+-- what the loop of `replay` keeps.
+use Rattle.std.specs.Prelude.{ℕ, ◌≡◌, Bool, List, ◌++◌, take, drop}
+use Rattle.pictures.specs.Checks.{Lent, Reads, entry_checks, slice_checks}
 use Rattle.visits.specs.Checks.{visit_reads}
-use Rattle.visits.specs.Promise.{visit_in, requests}
-use Rattle.visits.specs.Visit.{At, State, run, answers}
+use Rattle.visits.specs.Visit.{At, run, answers}
 
--- all checks before 13 but those of slices
-abbrev pub shared_visit_checks : Part → Size → At → Bool → Bool → ℕ → ℕ → ℕ → List ℕ → List ℕ → List ℕ → List ℕ → List (ℕ × Bool)
-shared_visit_checks part size r other six luma u v strengths qps t8s ms =
-    shared_checks part size (outside_of size r.0 r.1) (other || not (eqb (length ms) (size.w * size.h))) six luma u v strengths qps t8s
-    (visit_reads size.w strengths t8s ms r)
-
--- .. and none of them applies
-pub record Shared (part : Part) (size : Size) (r : At) (luma u v : ℕ) (strengths qps t8s ms : List ℕ) : Type 0 where
-  pub other : Bool
-  pub six : Bool
-  pub passed : refusal (shared_visit_checks part size r other six luma u v strengths qps t8s ms) ≡ 0
-
--- each visit made in turn, and its answer in its place
-pub record Replayed (part : Part) (d : Lent) (xs ys : List ℕ) (s : State Planes) (t : State Planes) (out : List ℕ) : Type 0 where
-  pub leaves : t ≡ run (visit_in part d) (requests xs ys) s
-  pub writes : out ≡ answers (visit_in part d) (requests xs ys) s
+-- 7, 8, 9, 20 and 21
+abbrev pub visit_entry_checks : Lent → List ℕ → At → List (ℕ × Bool)
+visit_entry_checks d ms r = entry_checks d.qps reads ++ slice_checks d.slicing reads
+  where
+    reads : Reads
+    reads = visit_reads d.size.w d.strengths d.t8s ms r
 
 -- k of the requests rs have been made and the answers stand in out: what is left leads from now where all led
 -- from start

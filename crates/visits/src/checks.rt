@@ -1,98 +1,101 @@
 // The checks of a visit before 13, in the order of their numbers.
+// Kept: (4) that a place lies in a grid is a fact of two values, by one name.
 ghost use Rattle.std.specs.Prelude.{◌≡◌, false, ◌+◌, ◌*◌, ◌<◌, ◌≤◌, eqb, length};
 ghost use Rattle.laws.specs.Refusal.{refusal};
-ghost use Rattle.pictures.specs.Checks.{bad_qp, entry_checks};
+ghost use Rattle.edges.specs.LentPlanes.{samples};
+ghost use Rattle.refusals.specs.Refusals.{number_of};
+ghost use Rattle.pictures.specs.Checks.{bad_qp};
+ghost use Rattle.pictures.specs.Inner.{GridsHold, given_wide};
+ghost use Rattle.pictures.specs.LentData.{given};
 ghost use Rattle.sizes.specs.Inner.{InPicture};
-ghost use Rattle.visits.specs.Checks.{bad_marks, bad_around, visit_reads};
-ghost use Rattle.visits.specs.Inner.{shared_visit_checks};
+ghost use Rattle.slices.specs.Inner.{NumbersHold};
+ghost use Rattle.slices.specs.LentSlicing.{slicing_of};
+ghost use Rattle.slices.specs.Slicing.{some_bad_number};
+ghost use Rattle.visits.specs.Checks.{bad_marks, bad_around, early_in};
+ghost use Rattle.visits.specs.Inner.{visit_entry_checks};
 
-use pictures::checks::{any_bad_flag, any_bad_strength, refuse_grids, refuse_picture};
-use sizes::entries::{over_before, over_near};
-use sizes::{Part, Size};
+use edges::Planes;
+use pictures::Lent;
+use pictures::checks::{BadEntries, any_bad_flag, any_bad_strength, check_picture};
+use refusals::Refusal;
+use sizes::Picture;
+use sizes::entries::{bad_before, bad_near, over_near};
+use sizes::places::Place;
+use slices::Slicing;
 
 // Check 7, of the marks.
 #[tactic(auto, unfolding(crate::specs::Checks::bad_marks))]
-fn bad_marks(marks: &[u8], w: usize, x: usize, y: usize) -> bool
-    requires { InPicture w x y (length marks.now) }
-    ensures { result ≡ bad_marks marks.now w x y }
+fn bad_marks(marks: &[u8], place: Place) -> bool
+    requires { InPicture place.w place.x place.y (length marks.now) }
+    ensures { result ≡ bad_marks marks.now place.w place.x place.y }
 {
-    let near = over_near(marks, w, x, y, 1);
-    let upper_right = over_before((0 < y) & (x + 1 < w), marks, y * w + x, w - 1, 1);
+    let near = over_near(marks, place, 1);
+    let upper_right = bad_before(marks, place.upper_right(), &|mark| 1 < mark);
     near | upper_right
 }
 
 // Check 8.
 #[tactic(auto, unfolding(crate::specs::Checks::bad_around))]
-fn bad_qps(qps: &[u8], w: usize, x: usize, y: usize) -> bool
-    requires { InPicture w x y (length qps.now) }
-    ensures { result ≡ bad_around bad_qp qps.now w x y }
+fn bad_qps(qps: &[u8], place: Place) -> bool
+    requires { InPicture place.w place.x place.y (length qps.now) }
+    ensures { result ≡ bad_around bad_qp qps.now place.w place.x place.y }
 {
-    over_near(qps, w, x, y, 51)
+    over_near(qps, place, 51)
 }
 
-// Checks 7 to 9, which read entries.
-pub fn refuse_visit_entries(
-    w: usize,
-    x: usize,
-    y: usize,
-    strengths: &[u8],
-    qps: &[u8],
-    t8s: &[u8],
-    marks: &[u8],
-) -> u32
-    requires { InPicture w x y (length marks.now) × InPicture w x y (length qps.now) × InPicture w x y 36864 × (32 * (y * w + x) + 32 ≤ length strengths.now) × (eqb (length t8s.now) 0 ≡ false → y * w + x < length t8s.now) }
-    ensures { result ≡ refusal (entry_checks qps.now (visit_reads w strengths.now t8s.now marks.now (x, y))) }
+// Check 20: a number is past the table. Kept: (4) beside `any_bad_number` of pictures: a method of `Slicing`
+// that is told by a closure how to look would match once, but each closure would have to state what it asks
+// for and what it finds, which is longer than the match.
+fn bad_numbers(slicing: &Slicing<'_>, place: Place) -> bool
+    requires { InPicture place.w place.x place.y 36864 × NumbersHold (place.y * place.w + place.x + 1) (slicing_of slicing.now) }
+    ensures { result ≡ some_bad_number (slicing_of slicing.now) (λ bad ns. bad_around bad ns place.w place.x place.y) }
 {
-    let i = y * w + x;
-    let flag = any_bad_flag(t8s, i, i + 1);
-    let mark = bad_marks(marks, w, x, y);
-    if flag | mark {
-        return 7;
+    match slicing {
+        Slicing::Single(_) => false,
+        Slicing::Table {
+            records,
+            numbers,
+            ..
+        } => {
+            let count = records.len();
+            bad_near(numbers, place, &|number| count <= usize::from(number))
+        }
     }
-    if bad_qps(qps, w, x, y) {
-        return 8;
-    }
-    if any_bad_strength(strengths, i, i + 1) {
-        return 9;
-    }
-    0
 }
 
-// All of them, of a visit without slices; luma, u, v are the lengths of the planes. `six`: check 6 applies.
-// A visit with slices makes the same groups in a function of its own (sliced/src/visiting).
-pub fn refuse_early(
-    part: Part,
-    size: Size,
+// Checks 7 to 9, 20 and 21.
+fn check_visit_entries(place: Place, lent: &Lent<'_>, marks: &[u8]) -> Result<(), Refusal>
+    requires place { InPicture place.w place.x place.y (length marks.now) × InPicture place.w place.x place.y 36864 }
+    requires grids { GridsHold (place.y * place.w + place.x + 1) (given_wide place.w lent.now) }
+    ensures { number_of result ≡ refusal (visit_entry_checks (given_wide place.w lent.now) marks.now (place.x, place.y)) }
+{
+    let i = place.index();
+    let grids = &lent.grids;
+    let bad = BadEntries {
+        flag: any_bad_flag(grids.t8s, i, i + 1) | bad_marks(marks, place),
+        qp: bad_qps(grids.qps, place),
+        strength: any_bad_strength(grids.strengths, i, i + 1),
+        number: bad_numbers(&lent.slicing, place),
+        mode: lent.slicing.has_bad_mode(),
+    };
+    bad.check()
+}
+
+// All of them. Kept: (1) x and y for a place: places outside the picture are refused with 2, and a `Place`
+// there would have a width of its own beside the picture's.
+pub fn check_early(
+    picture: Picture,
     x: usize,
     y: usize,
-    six: bool,
-    luma: usize,
-    u: usize,
-    v: usize,
-    strengths: &[u8],
-    qps: &[u8],
-    t8s: &[u8],
+    planes: &Planes<'_>,
+    lent: &Lent<'_>,
     marks: &[u8],
-) -> u32
-    ensures { result ≡ refusal (shared_visit_checks part size (x, y) false six luma u v strengths.now qps.now t8s.now marks.now) }
+) -> Result<(), Refusal>
+    ensures { number_of result ≡ early_in picture.part (given picture.size lent.now) (samples planes.now, marks.now) (x, y) }
 {
-    let w = size.w;
-    let h = size.h;
-    let k = refuse_picture(part, size, (w <= x) | (h <= y), luma, u, v);
-    if k != 0 {
-        return k;
-    }
-    let n = w * h;
-    let m = refuse_grids(
-        n,
-        strengths.len(),
-        qps.len(),
-        t8s.len(),
-        marks.len() != n,
-        six,
-    );
-    if m != 0 {
-        return m;
-    }
-    refuse_visit_entries(w, x, y, strengths, qps, t8s, marks)
+    let size = picture.size;
+    check_picture(picture, (size.w <= x) | (size.h <= y), planes)?;
+    let n = size.count();
+    lent.check_grids(n, marks.len() != n)?;
+    check_visit_entries(Place { w: size.w, x, y }, lent, marks)
 }

@@ -3,6 +3,5 @@
 #![tactic(auto)]
 
 pub mod checks;
-pub mod finishing;
 pub mod readiness;
 pub mod visits;

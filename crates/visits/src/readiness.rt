@@ -1,27 +1,36 @@
-// Check 14.
-ghost use Rattle.std.specs.Prelude.{◌≡◌, true, not, ◌&&◌, ◌-◌, ◌<◌, ◌≤◌, eqb, length, get_or};
+// Checks 13 and 14.
+// Kept: (4) that a place lies in the marks is a fact of two values, by one name.
+ghost use Rattle.std.specs.Prelude.{◌≡◌, cond, length};
+ghost use Rattle.refusals.specs.Refusals.{number_of};
 ghost use Rattle.sizes.specs.Inner.{InPicture};
-ghost use Rattle.visits.specs.Visit.{waiting};
+ghost use Rattle.visits.specs.Visit.{marked, waiting};
 
-// Where there is a neighbour d places before i, it is unmarked.
-fn lacks(there: bool, marks: &[u8], i: usize, d: usize) -> bool
-    requires { (i < length marks.now) × (there ≡ true → d ≤ i) }
-    ensures { result ≡ (there && not (eqb (get_or marks.now (i - d) 0) 1)) }
+use refusals::Refusal;
+use sizes::entries::bad_before;
+use sizes::places::Place;
+
+// A neighbour that a macroblock waits for is unmarked.
+fn waits(marks: &[u8], place: Place) -> bool
+    requires { InPicture place.w place.x place.y (length marks.now) }
+    ensures { result ≡ waiting place.w marks.now place.x place.y }
 {
-    if there {
-        return marks[i - d] != 1;
-    }
-    false
+    let unmarked = |mark| mark != 1;
+    let left = bad_before(marks, place.left(), &unmarked);
+    let upper = bad_before(marks, place.upper(), &unmarked);
+    let upper_right = bad_before(marks, place.upper_right(), &unmarked);
+    left | upper | upper_right
 }
 
-// A neighbour that (x, y) waits for is unmarked.
-pub fn waits(marks: &[u8], w: usize, x: usize, y: usize) -> bool
-    requires { InPicture w x y (length marks.now) }
-    ensures { result ≡ waiting w marks.now x y }
+// Whether a macroblock may be visited: it has not been, and it waits for no neighbour.
+pub fn check_ready(marks: &[u8], place: Place) -> Result<(), Refusal>
+    requires { InPicture place.w place.x place.y (length marks.now) }
+    ensures { number_of result ≡ cond (marked place.w marks.now place.x place.y) 13 (cond (waiting place.w marks.now place.x place.y) 14 0) }
 {
-    let i = y * w + x;
-    let left = lacks(0 < x, marks, i, 1);
-    let upper = lacks(0 < y, marks, i, w);
-    let upper_right = lacks((0 < y) & (x + 1 < w), marks, i, w - 1);
-    left | upper | upper_right
+    if marks[place.index()] == 1 {
+        return Err(Refusal::Visited);
+    }
+    if waits(marks, place) {
+        return Err(Refusal::NotReady);
+    }
+    Ok(())
 }

@@ -1,123 +1,66 @@
-// A visit of a picture, which is a frame or a field of one, and visits replayed: `size` and marks are the
-// picture's, the planes are the frame's. Neither asks anything of its caller; a refusal changes no byte.
-ghost use Rattle.std.specs.Prelude.{◌≡◌, length};
-ghost use Rattle.edges.specs.Picture.{planes};
-ghost use Rattle.pictures.specs.Checks.{lent};
-ghost use Rattle.visits.specs.Inner.{Replayed};
+// A visit of a picture, which is a frame or a field of one, and visits replayed: marks are the picture's, the
+// planes are the frame's. Neither asks anything of its caller; a refusal changes no byte.
+ghost use Rattle.std.specs.Prelude.{◌≡◌, OnErr};
+ghost use Rattle.edges.specs.LentPlanes.{samples, SamePlanes};
+ghost use Rattle.refusals.specs.Refusals.{number_of, answer_numbers};
+ghost use Rattle.pictures.specs.LentData.{given};
 ghost use Rattle.visits.specs.Promise.{VisitOutcome, ReplayOutcome};
 
-use crate::checks::refuse_early;
-use crate::readiness::waits;
-use edges::Offsets;
-use edges::macroblock::all_zero;
-use edges::picture::{every_edge, filter_edges};
-use sizes::{Part, Size};
-use slices::rules::bad_offsets;
+use crate::checks::check_early;
+use crate::readiness::check_ready;
+use edges::Planes;
+use pictures::Lent;
+use pictures::macroblocks::filter_macroblock;
+use refusals::Refusal;
+use sizes::Picture;
+use sizes::places::Place;
 
-// Macroblock (x, y) filtered and marked, or a refusal. One whose strengths are all 0 is marked alone.
+// Macroblock (x, y) filtered and marked, or a refusal. One whose strengths are all 0 is marked alone. Kept:
+// (1) x and y for a place: places outside the picture are refused with 2, and a `Place` there would have a
+// width of its own beside the picture's.
 pub fn visit(
-    size: Size,
-    part: Part,
+    picture: Picture,
     x: usize,
     y: usize,
-    o: Offsets,
-    luma: &mut [u8],
-    u: &mut [u8],
-    v: &mut [u8],
-    strengths: &[u8],
-    qps: &[u8],
-    t8s: &[u8],
+    planes: &mut Planes<'_>,
+    lent: &Lent<'_>,
     marks: &mut [u8],
-) -> u32
-    ensures { VisitOutcome part (lent size o strengths.now qps.now t8s.now) (planes luma.old u.old v.old, marks.old) (x, y) result (planes luma.new u.new v.new, marks.new) }
+) -> Result<(), Refusal>
+    ensures same { SamePlanes planes.old planes.new }
+    ensures outcome { VisitOutcome picture.part (given picture.size lent.now) (samples planes.old, marks.old) (x, y) (number_of result) (samples planes.new, marks.new) }
 {
-    let n = refuse_early(
-        part,
-        size,
-        x,
-        y,
-        bad_offsets(o),
-        luma.len(),
-        u.len(),
-        v.len(),
-        strengths,
-        qps,
-        t8s,
-        marks,
-    );
-    if n != 0 {
-        return n;
-    }
-    let w = size.w;
-    let i = y * w + x;
-    if marks[i] == 1 {
-        return 13;
-    }
-    if waits(marks, w, x, y) {
-        return 14;
-    }
-    if all_zero(strengths, 32 * i) {
-        marks[i] = 1;
-        return 0;
-    }
-    let on = every_edge();
-    filter_edges(luma, u, v, part, w, x, y, qps, t8s, strengths, o, on);
+    check_early(picture, x, y, planes, lent, marks)?;
+    let w = picture.size.w;
+    let place = Place { w, x, y };
+    check_ready(marks, place)?;
+    filter_macroblock(picture.part, place, planes, lent);
+    let i = place.index();
     marks[i] = 1;
-    0
+    Ok(())
 }
 
-// Visits of (xs[k], ys[k]) for each k in turn, each answer in answers[k].
-fn each(
-    size: Size,
-    part: Part,
-    o: Offsets,
-    xs: &[usize],
-    ys: &[usize],
-    luma: &mut [u8],
-    u: &mut [u8],
-    v: &mut [u8],
-    strengths: &[u8],
-    qps: &[u8],
-    t8s: &[u8],
-    marks: &mut [u8],
-    answers: &mut [u32],
-)
-    requires { (length ys.now ≡ length xs.now) × (length answers.old ≡ length xs.now) }
-    ensures { Replayed part (lent size o strengths.now qps.now t8s.now) xs.now ys.now (planes luma.old u.old v.old, marks.old) (planes luma.new u.new v.new, marks.new) answers.new }
-{
-    let mut k: usize = 0;
-    while k < xs.len() {
-        let n = visit(
-            size, part, xs[k], ys[k], o, luma, u, v, strengths, qps, t8s, marks,
-        );
-        answers[k] = n;
-        k += 1;
-    }
-}
-
-// Requests as they arrived, replayed. Lists of different lengths are refused with 4.
+// Requests as they arrived, replayed: (xs[k], ys[k]) for each k in turn, each answer in answers[k]. Lists of
+// different lengths are refused with 4. Kept: (1) two lists: `ReplayOutcome` says what lists of different
+// lengths come to, which one list of requests could not have; (4) by index: after an adapter of
+// `iter_mut` a proof knows nothing of the answers, and over the answers alone both lists would be read so.
 pub fn replay(
-    size: Size,
-    part: Part,
-    o: Offsets,
+    picture: Picture,
     xs: &[usize],
     ys: &[usize],
-    luma: &mut [u8],
-    u: &mut [u8],
-    v: &mut [u8],
-    strengths: &[u8],
-    qps: &[u8],
-    t8s: &[u8],
+    planes: &mut Planes<'_>,
+    lent: &Lent<'_>,
     marks: &mut [u8],
-    answers: &mut [u32],
-) -> u32
-    ensures { ReplayOutcome part (lent size o strengths.now qps.now t8s.now) xs.now ys.now (planes luma.old u.old v.old, marks.old) answers.old result (planes luma.new u.new v.new, marks.new) answers.new }
+    answers: &mut [Result<(), Refusal>],
+) -> Result<(), Refusal>
+    ensures same { SamePlanes planes.old planes.new }
+    ensures outcome { ReplayOutcome picture.part (given picture.size lent.now) xs.now ys.now (samples planes.old, marks.old) (answer_numbers answers.old) (number_of result) (samples planes.new, marks.new) (answer_numbers answers.new) }
+    ensures kept { OnErr result (answers.new ≡ answers.old) }
 {
     if (ys.len() != xs.len()) | (answers.len() != xs.len()) {
-        return 4;
+        return Err(Refusal::Grids);
     }
-    each(
-        size, part, o, xs, ys, luma, u, v, strengths, qps, t8s, marks, answers,
-    );
-    0
+    for (k, x) in xs.iter().enumerate() {
+        answers[k] = visit(picture, *x, ys[k], planes, lent, marks);
+    }
+    Ok(())
 }

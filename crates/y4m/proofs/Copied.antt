@@ -1,12 +1,11 @@
 -- Laws of bytes that are copied, and of texts put at a place of a stream. Assumes nothing.
-use Prim.Native.Nat.{ℕ, ◌+◌, ◌-◌, ◌<◌, ◌≤◌}
+use Prim.Native.Nat.{ℕ, ◌+◌, ◌<◌, ◌≤◌}
 use mathlib.Core.Path.{◌≡◌, sym, ap, ◌∙◌}
 use mathlib.Core.List.{List, ◌++◌, append-nil, append_assoc}
 use native.Mathlib.Omega.{arith}
-use lib.ListN.{length, take, drop, length-drop, length-append, drop_of_length-le, get_or, set}
-use lib.Seq.{take-length, take_all, take_at, drop-length, drop-drop, drop-append-add, length-take-le, paste, paste-suc}
-use borrow.Rule.Slice.PartMut.{put_mid, Post-is}
-use Rattle.y4m.specs.Places.{put_at, Put}
+use lib.ListN.{length, take, drop, length-append, drop_of_length-le, get_or, set}
+use lib.Seq.{take-length, take_at, drop-drop, drop-append-add, length-take-le, paste, paste-suc}
+use Rattle.y4m.specs.Places.{Put}
 use native.Mathlib.Nat.{zero-add}
 use native.Mathlib.Numerals.{add-one}
 
@@ -26,36 +25,7 @@ pasted-all to from i h e =
     ∙ ap (λ (n : ℕ). take (length from) from ++ drop n to) (zero-add (length from))
     ∙ ap (λ (l : List ℕ). l ++ drop (length from) to) (take-length from)
 
--- what `copy_all` makes of `to`
-abbrev copied_over : List ℕ → List ℕ → List ℕ
-copied_over from to = from ++ drop (length from) to
-
--- over a text of the same length
-copied-whole : (from to : List ℕ) → length to ≡ length from → copied_over from to ≡ from
-copied-whole from to h =
-    let l : length to ≤ length from = omega arith in
-    ap (λ (k : List ℕ). from ++ k) (drop_of_length-le to l) ∙ append-nil from
-
--- a part that is as long
-pub copied-part : (s to : List ℕ) (at : ℕ) → at + length to ≤ length s → copied_over (take (at + length to - at) (drop at s)) to ≡ take (length to) (drop at s)
-copied-part s to at h =
-    let d : at + length to - at ≡ length to = omega arith in
-    let l = length-drop at s in
-    ap (λ (k : ℕ). copied_over (take k (drop at s)) to) d ∙ copied-whole (take (length to) (drop at s)) to (sym (length-take-le (length to) (drop at s) (omega arith)))
-
--- ---- a text put at a place of a stream
--- copied over the stream from that place on
-pub put_is : (s text rest : List ℕ) (at : ℕ) → at + length text ≤ length s → rest ≡ copied_over text (take (length s - at) (drop at s))
-    → put_mid at (length s - at) s rest ≡ put_at s at text
-put_is s text rest at h e =
-    let d = length-drop at s in
-    let all : take (length s - at) (drop at s) ≡ drop at s = take_all (length s - at) (drop at s) (omega arith) in
-    let r : rest ≡ text ++ drop (at + length text) s =
-    e ∙ ap (λ (l : List ℕ). copied_over text l) all ∙ ap (λ (l : List ℕ). text ++ l) (drop-drop (length text) at s) in
-    let p = Post-is at (length s) s (omega arith) ∙ drop-length s in
-    ap (λ (l : List ℕ). take at s ++ l) ((λ i. r i ++ p i) ∙ append-nil (text ++ drop (at + length text) s))
-
--- another one behind it
+-- ---- a text put at a place of a stream, and another one behind it
 pub put-more : (s a b : List ℕ) (at : ℕ) {r q : ℕ} {t z : List ℕ} → at + length a + length b ≤ length s → Put s at a r t → Put t r b q z → Put s at (a ++ b) q z
 put-more s a b at {r} {q} {t} {z} h p k =
     let d : List ℕ = drop (at + length a) s in

@@ -2,8 +2,8 @@ pub mod Behind
 pub mod Copied
 pub mod Cut
 pub mod Decimal
-pub mod Ends
 pub mod Examples
+pub mod Lines
 pub mod Outcomes
 pub mod Parts
 pub mod Refused
@@ -11,7 +11,7 @@ pub mod RoundTrip
 pub mod Same
 pub mod Seen
 pub mod Sides
-pub mod Tags
+pub mod Words
 pub mod Values
 pub mod Written
 pub mod WrittenLines

@@ -1,80 +1,46 @@
 -- What a reader leaves, by its answer. Assumes nothing.
-use Prim.Native.Nat.{ℕ, ◌+◌, ◌*◌}
+use Prim.Native.Nat.{ℕ, ◌*◌}
 use mathlib.Core.Path.{◌≡◌, refl, sym, ap, ◌∙◌}
-use mathlib.Core.Bool.{Bool, true, false, cond}
+use mathlib.Core.Bool.{Bool, false, cond}
 use mathlib.Core.List.{List, [], ◌∷◌}
 use borrow.Author.Tests.{ne_eqb}
-use native.Mathlib.Omega.{arith}
 use lib.Dec.{eqb}
-use lib.ListN.{length, take, drop}
+use lib.ListN.{length}
 use Rattle.laws.specs.Refusal.{refusal}
-use Rattle.laws.proofs.Refusal.{first-applies, first-passed, stop, skip}
+use Rattle.laws.proofs.Refusal.{first-applies, first-passed, skip}
 use Rattle.sizes.specs.Sizes.{bad_planes}
 use Rattle.sizes.specs.declared.Size.{Size}
 use Rattle.sizes.proofs.Sized.{PlanesFit, fits-planes}
-use Rattle.y4m.specs.Calls.{LookOutcome, ReadOutcome, WriteOutcome, if_done, found, size_said, macroblocks, stream_checks, read_checks}
-use Rattle.y4m.specs.Stream.{count, planes_at, luma_read, u_read, v_read, stream_of}
-use Rattle.y4m.specs.Places.{SeenIn}
+use Rattle.y4m.specs.Calls.{LookOutcome, ReadOutcome, WriteOutcome, if_done, found, found_of, size_said, macroblocks, stream_checks, read_checks}
+use Rattle.y4m.specs.Stream.{luma_read, u_read, v_read, stream_of}
+use Rattle.refusals.specs.Refusals.{code_of}
+use Rattle.refusals.specs.declared.Refusal.{Refusal}
+use Rattle.refusals.proofs.Codes.{code-positive}
+use Rattle.std.specs.Prelude.{Result, Err}
 use Rattle.y4m.specs.declared.Found.{Found}
 
--- a refusal leaves everything as it was
-kept : (s luma u v : List ℕ) (n : ℕ) {r : Found} → (n ≡ 0 → ⊥) → n ≡ refusal (read_checks s (length luma) (length u) (length v))
-    → ((size : Size) → r ≡ found n size) → ReadOutcome s luma u v r luma u v
-kept s luma u v n z e f =
-    let t = refusal (read_checks s (length luma) (length u) (length v)) in
-    let k : eqb t 0 ≡ false = ap (λ (m : ℕ). eqb m 0) (sym e) ∙ ne_eqb n 0 z in
-    record {
-      answer = f (size_said s) ∙ ap (λ (m : ℕ). found m (size_said s)) e;
-      luma = sym (ap (λ b. cond b (luma_read (macroblocks s) s) luma) k);
-      u = sym (ap (λ b. cond b (u_read (macroblocks s) s) u) k);
-      v = sym (ap (λ b. cond b (v_read (macroblocks s) s) v) k);
-    }
+refused-is : (e : Refusal) (size : Size) → found_of (Err e) ≡ found (code_of e) size
+refused-is e size = let z = ne_eqb (code_of e) 0 (code-positive e) in rw z
 
--- with 0 the planes are the stream's
-placed : (s luma u v : List ℕ) {r : Found} {luma₁ u₁ v₁ : List ℕ} → 0 ≡ refusal (read_checks s (length luma) (length u) (length v))
-    → r ≡ found 0 (size_said s) → luma₁ ≡ luma_read (macroblocks s) s → u₁ ≡ u_read (macroblocks s) s → v₁ ≡ v_read (macroblocks s) s
-    → ReadOutcome s luma u v r luma₁ u₁ v₁
-placed s luma u v e f p q o =
-    let k : eqb (refusal (read_checks s (length luma) (length u) (length v))) 0 ≡ true = ap (λ (m : ℕ). eqb m 0) (sym e) in
+-- ---- a refusal leaves everything as it was
+kept : (s luma u v : List ℕ) {r : Result Size Refusal} (e : Refusal) → r ≡ Err e → code_of e ≡ refusal (read_checks s (length luma) (length u) (length v))
+    → ReadOutcome s luma u v (found_of r) luma u v
+kept s luma u v {r} e f k =
+    let z : eqb (refusal (read_checks s (length luma) (length u) (length v))) 0 ≡ false = ap (λ (m : ℕ). eqb m 0) (sym k) ∙ ne_eqb (code_of e) 0 (code-positive e) in
     record {
-      answer = f ∙ ap (λ (m : ℕ). found m (size_said s)) e;
-      luma = p ∙ sym (ap (λ b. cond b (luma_read (macroblocks s) s) luma) k);
-      u = q ∙ sym (ap (λ b. cond b (u_read (macroblocks s) s) u) k);
-      v = o ∙ sym (ap (λ b. cond b (v_read (macroblocks s) s) v) k);
+      answer = ap found_of f ∙ refused-is e (size_said s) ∙ ap (λ (m : ℕ). found m (size_said s)) k;
+      luma = sym (ap (λ b. cond b (luma_read (macroblocks s) s) luma) z);
+      u = sym (ap (λ b. cond b (u_read (macroblocks s) s) u) z);
+      v = sym (ap (λ b. cond b (v_read (macroblocks s) s) v) z);
     }
 
 -- ---- the checks of a stream, then 3
 abbrev three : List ℕ → ℕ → ℕ → ℕ → List (ℕ × Bool)
 three s luma u v = (3, bad_planes (macroblocks s) luma u v) ∷ []
 
-module _ (s luma u v : List ℕ) {n : ℕ} {size : Size} {at : ℕ} (g : SeenIn s n size at) where
-  pub turned-away : {r : Found} → (n ≡ 0 → ⊥) → ((size : Size) → r ≡ found n size) → ReadOutcome s luma u v r luma u v
-  turned-away z f = kept s luma u v n z (first-applies (stream_checks s) (three s (length luma) (length u) (length v)) tt g.answer z) f
-
-  module _ (z : n ≡ 0) where
-    third : {k : ℕ} → k ≡ refusal (three s (length luma) (length u) (length v)) → k ≡ refusal (read_checks s (length luma) (length u) (length v))
-    third h = first-passed (stream_checks s) (three s (length luma) (length u) (length v)) tt (sym g.answer ∙ z) h
-
-    planes-are : bad_planes (size.w * size.h) (length luma) (length u) (length v) ≡ bad_planes (macroblocks s) (length luma) (length u) (length v)
-    planes-are = ap (λ (o : Size). bad_planes (count o) (length luma) (length u) (length v)) (g.sized z)
-
-    pub wrong-planes : {r : Found} → bad_planes (size.w * size.h) (length luma) (length u) (length v) ≡ true
-        → ((size : Size) → r ≡ found 3 size) → ReadOutcome s luma u v r luma u v
-    wrong-planes h f = kept s luma u v 3 (λ k. omega arith) (third (stop 3 0 (sym planes-are ∙ h))) f
-
-    pub all_read : {r : Found} {luma₁ u₁ v₁ : List ℕ} → bad_planes (size.w * size.h) (length luma) (length u) (length v) ≡ false
-        → r ≡ found 0 size
-        → luma₁ ≡ take (256 * (size.w * size.h)) (drop at s)
-        → u₁ ≡ take (64 * (size.w * size.h)) (drop (at + 256 * (size.w * size.h)) s)
-        → v₁ ≡ take (64 * (size.w * size.h)) (drop (at + 320 * (size.w * size.h)) s)
-        → ReadOutcome s luma u v r luma₁ u₁ v₁
-    all_read h f p q o =
-        let e : size ≡ size_said s = g.sized z in
-        let d : at ≡ planes_at s = g.place z in
-        placed s luma u v (third (skip 3 (sym planes-are ∙ h) refl)) (f ∙ ap (found 0) e)
-        (p ∙ (λ i. take (256 * count (e i)) (drop (d i) s)))
-        (q ∙ (λ i. take (64 * count (e i)) (drop (d i + 256 * count (e i)) s)))
-        (o ∙ (λ i. take (64 * count (e i)) (drop (d i + 320 * count (e i)) s)))
+module _ (s luma u v : List ℕ) where
+  pub turned-away : {r : Result Size Refusal} (e : Refusal) → r ≡ Err e → code_of e ≡ refusal (stream_checks s) → ReadOutcome s luma u v (found_of r) luma u v
+  turned-away e f k = kept s luma u v e f (first-applies (stream_checks s) (three s (length luma) (length u) (length v)) tt k (code-positive e))
 
 -- ---- one outcome only
 pub one-read : {s luma u v luma₁ u₁ v₁ luma₂ u₂ v₂ : List ℕ} {r q : Found} → ReadOutcome s luma u v r luma₁ u₁ v₁ → ReadOutcome s luma u v q luma₂ u₂ v₂

@@ -1,14 +1,14 @@
 -- Laws of numbers in decimal, with what is too large cut off. Assumes nothing.
 use Prim.Native.Nat.{ℕ, suc, ◌+◌, ◌*◌, ◌-◌, ◌<◌, ◌≤◌}
 use mathlib.Core.Path.{◌≡◌, refl, sym, ap, ◌∙◌}
-use mathlib.Core.Bool.{true, false, not, ◌&&◌}
+use mathlib.Core.Bool.{false}
 use mathlib.Core.List.{List, [], ◌∷◌}
 use mathlib.Core.Logic.{⊎_elim}
-use borrow.Author.Tests.{lt-ltb, le-ltb, ne_eqb}
+use borrow.Author.Tests.{lt-ltb, le-ltb, eqb-false}
 use native.Mathlib.Omega.{arith}
 use native.Mathlib.Numerals.{add-one}
 use lib.Dec.{eqb}
-use lib.ListN.{length, get_or, drop, drop_of_length-le}
+use lib.ListN.{length, get_or, drop}
 use lib.Seq.{drop-cons}
 use Rattle.laws.proofs.Ints.{le-or-lt}
 use Rattle.y4m.specs.Text.{value_from, all, is_digit, is_decimal}
@@ -47,23 +47,7 @@ value-turn n l i k =
     ∙ sym (capped-from (10 * n + (get_or l i 0 - 48)) (drop (suc i) l))
     ∙ rw add-one
 
-pub value-end : (n : ℕ) (l : List ℕ) (i : ℕ) → length l ≤ i → n ≤ 4097 → capped (value_from n (drop i l)) ≡ n
-value-end n l i h k = ap (λ (r : List ℕ). capped (value_from n r)) (drop_of_length-le l h) ∙ capped-within n k
-
--- ---- digits
-module _ (l : List ℕ) (i : ℕ) (k : i < length l) where
-  digits-turn : all is_digit (drop i l) ≡ (is_digit (get_or l i 0) && all is_digit (drop (i + 1) l))
-  digits-turn = ap (all is_digit) (drop-cons l i 0 k) ∙ rw add-one
-
-  pub digit_not : is_digit (get_or l i 0) ≡ false → all is_digit (drop i l) ≡ false
-  digit_not e = digits-turn ∙ rw e
-
-  pub digit-here : is_digit (get_or l i 0) ≡ true → all is_digit (drop i l) ≡ all is_digit (drop (i + 1) l)
-  digit-here e = digits-turn ∙ rw e
-
-pub decimal-test : (l : List ℕ) → all is_digit l ≡ true → not (eqb (length l) 0) ≡ is_decimal l
-decimal-test [] e = refl
-decimal-test (x ∷ xs) e = let k = ne_eqb (suc (length xs)) 0 (λ h. omega arith) in rw k (sym e)
-
-pub digits-end : (l : List ℕ) (i : ℕ) → length l ≤ i → all is_digit (drop i l) ≡ true
-digits-end l i h = ap (all is_digit) (drop_of_length-le l h)
+-- ---- digits alone, and one at least
+pub decimal-test : (l : List ℕ) → eqb (length l) 0 ≡ false → all is_digit l ≡ is_decimal l
+decimal-test [] e = absurd (eqb-false 0 0 e refl)
+decimal-test (x ∷ xs) e = refl

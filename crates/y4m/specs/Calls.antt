@@ -1,6 +1,8 @@
 -- What the calls over streams promise: one answer and one final content of what is lent, for every input.
-use Rattle.std.specs.Prelude.{ℕ, ◌+◌, ◌*◌, ◌≡◌, Bool, cond, not, List, [], ◌∷◌, ◌++◌, eqb, length}
+use Rattle.std.specs.Prelude.{ℕ, ◌+◌, ◌*◌, ◌≤◌, ◌≡◌, Bool, cond, not, List, [], ◌∷◌, ◌++◌, Result, Ok, Err, IfOk, eqb, length}
 use Rattle.laws.specs.Refusal.{refusal}
+use Rattle.refusals.specs.Refusals.{code_of}
+use Rattle.refusals.specs.declared.Refusal.{Refusal}
 use Rattle.sizes.specs.Sizes.{bad_size, bad_planes}
 use Rattle.sizes.specs.declared.Size.{Size}
 use Rattle.y4m.specs.Stream.{header, malformed, other_planes, bad_sides, cut_short, size_in, count, luma_read, u_read, v_read, lines_for, stream_of}
@@ -16,6 +18,20 @@ macroblocks s = count (size_said s)
 -- a number, and with 0 a size
 abbrev pub found : ℕ → Size → Found
 found n size = record { number = n; w = cond (eqb n 0) size.w 0; h = cond (eqb n 0) size.h 0 }
+
+-- .. as a call answers it
+abbrev pub found_of : Result Size Refusal → Found
+found_of (Ok size) = found 0 size
+found_of (Err r) = record { number = code_of r; w = 0; h = 0 }
+
+-- ---- a size that check 1 does not refuse
+pub record GoodSize (size : Size) : Type 0 where
+  pub w-most : size.w ≤ 256
+  pub h-most : size.h ≤ 256
+  pub most : size.w * size.h ≤ 36864
+
+abbrev pub IfGoodSize : Result Size Refusal → Type 0
+IfGoodSize r = IfOk r GoodSize
 
 -- what is there after the answer n: something new with 0, what was there before with a refusal
 abbrev pub if_done : ℕ → List ℕ → List ℕ → List ℕ

@@ -1,38 +1,32 @@
 -- Apart: no promise to a caller rests on it, but what functions inside the crate ask and promise: text by the
 -- places of its bytes, the checks group by group, a stream that is being written.
-use Rattle.std.specs.Prelude.{ℕ, ◌+◌, ◌*◌, ◌-◌, ◌/◌, ◌%◌, ◌<◌, ◌≤◌, ◌≡◌, Bool, cond, not, ◌&&◌, ◌||◌, List, [], ◌∷◌, ◌++◌, eqb, ltb, leb, length, get_or, take, drop}
-use Rattle.laws.specs.Refusal.{refusal}
+use Rattle.std.specs.Prelude.{ℕ, ◌+◌, ◌*◌, ◌/◌, ◌%◌, ◌<◌, ◌≤◌, ◌≡◌, Bool, true, false, cond, not, ◌&&◌, ◌||◌, List, [], ◌∷◌, ◌++◌, Option, Some, None, MatchOption, option_map, Result, MatchResult, IfOk, eqb, ltb, length, take, drop, slice_get}
+use denote.Ref.{Bor}
+use Rattle.refusals.specs.declared.Refusal.{Refusal}
+use Rattle.refusals.specs.declared.Refusal.TheVariants.{Malformed}
+use Rattle.sizes.specs.Sizes.{bad_size}
 use Rattle.sizes.specs.declared.Size.{Size}
-use Rattle.y4m.specs.Text.{ascii, part, lines_of, words_of}
-use Rattle.y4m.specs.Stream.{header, frame_line, good_header, well_formed, other_planes, bad_sides, planes_at}
-use Rattle.y4m.specs.Calls.{size_said, stream_checks}
+use Rattle.y4m.specs.Text.{ascii, newline, parts, lines_of}
+use Rattle.y4m.specs.Stream.{good_header, well_formed, one_number, pixels, is_ours, other_planes, bad_sides, size_in, planes_at}
+use Rattle.y4m.specs.Calls.{size_said, GoodSize}
+use Rattle.y4m.specs.declared.reader.Stream.{Stream}
 
--- the values of the tags t in a text behind the byte p
-abbrev pub values_behind : ℕ → ℕ → List ℕ → List (List ℕ)
-values_behind t p [] = []
-values_behind t p (x ∷ xs) =
-    cond (eqb x t && eqb p 32) (part 0 (words_of xs) ∷ values_behind t x xs) (values_behind t x xs)
+-- a text at its first byte b: what stands before it, and what behind
+abbrev pub SplitAt : ℕ → List ℕ → Option (Bor (List ℕ) × Bor (List ℕ)) → Type 0
+SplitAt b s r = MatchOption r (parts b s ≡ s ∷ []) (λ p. (parts b s ≡ p.0.now ∷ parts b p.1.now) × (s ≡ p.0.now ++ b ∷ p.1.now))
 
--- .. from place i of a line on
-abbrev pub values_from : ℕ → List ℕ → ℕ → List (List ℕ)
-values_from t l i = values_behind t (get_or l (i - 1) 0) (drop i l)
+-- .. at the end of its first line
+abbrev pub NextLine : List ℕ → Result (Bor (List ℕ) × Bor (List ℕ)) Refusal → Type 0
+NextLine s r = MatchResult r (λ p. (lines_of s ≡ p.0.now ∷ lines_of p.1.now) × (s ≡ p.0.now ++ newline ∷ p.1.now)) (λ e. (lines_of s ≡ s ∷ []) × (e ≡ Malformed))
 
--- r is the place of the next of them, from i on
-pub record NextTag (t : ℕ) (l : List ℕ) (i r : ℕ) : Type 0 where
-  pub most : r ≤ length l
-  pub next : values_from t l i ≡ cond (ltb r (length l)) (part 0 (words_of (drop (r + 1) l)) ∷ values_from t l (r + 1)) []
+-- a word that begins with the letter t
+abbrev pub is_tag : ℕ → List ℕ → Bool
+is_tag t [] = false
+is_tag t (x ∷ w) = eqb x t
 
--- how many there are, up to 2, and where the first lies
-pub record TaggedBy (vs : List (List ℕ)) (l : List ℕ) (times from to : ℕ) : Type 0 where
-  pub often : times ≡ cond (ltb (length vs) 2) (length vs) 2
-  pub start : from ≤ to
-  pub end : to ≤ length l
-  pub first : take (to - from) (drop from l) ≡ part 0 vs
-
--- a word of a text behind the byte p is empty
-abbrev pub gaps_behind : ℕ → List ℕ → Bool
-gaps_behind p [] = eqb p 32
-gaps_behind p (x ∷ xs) = (eqb p 32 && eqb x 32) || gaps_behind x xs
+-- the values of a tag, of which there is one at most, as a reference to that one; or a refusal
+abbrev pub Tagged : List (List ℕ) → Result (Option (Bor (List ℕ))) Refusal → Type 0
+Tagged vs r = MatchResult r (λ o. (length vs ≤ 1) × (option_map (λ v. v.now) o ≡ slice_get vs 0)) (λ e. (1 < length vs) × (e ≡ Malformed))
 
 -- a side in pixels; 4097 stands for all that are above 4096, which are too large
 abbrev pub capped : ℕ → ℕ
@@ -43,28 +37,42 @@ abbrev pub line_checks : List ℕ → List ℕ → List (ℕ × Bool)
 line_checks l f =
     (15, not (good_header l && well_formed (ascii "FRAME") f)) ∷ (16, other_planes l) ∷ (17, bad_sides l) ∷ []
 
--- ---- a stream: where its first two lines end
-pub record LinesIn (s : List ℕ) (a b : ℕ) : Type 0 where
-  pub most : b ≤ length s
-  pub ended : leb 3 (length (lines_of s)) ≡ ltb b (length s)
-  pub both : b < length s → a + 1 ≤ b
-  pub first : b < length s → take a s ≡ header s
-  pub second : b < length s → take (b - (a + 1)) (drop (a + 1) s) ≡ frame_line s
-  pub behind : b < length s → b + 1 ≡ planes_at s
+-- .. one by one: of a line's form, of the value of the tag C, of sides in pixels
+abbrev pub form_checks : List ℕ → List ℕ → List (ℕ × Bool)
+form_checks w l = (15, not (well_formed w l)) ∷ []
 
--- a size that check 1 does not refuse
-pub record GoodSize (size : Size) : Type 0 where
-  pub w-most : size.w ≤ 256
-  pub h-most : size.h ≤ 256
-  pub most : size.w * size.h ≤ 36864
+abbrev pub other_value : Option (Bor (List ℕ)) → Bool
+other_value None = false
+other_value (Some c) = not (is_ours c.now)
 
--- the answer of checks 15 to 18 and, with 0, what is there
-pub record SeenIn (s : List ℕ) (n : ℕ) (size : Size) (at : ℕ) : Type 0 where
-  pub answer : n ≡ refusal (stream_checks s)
-  pub sized : n ≡ 0 → size ≡ size_said s
-  pub within : n ≡ 0 → GoodSize size
-  pub place : n ≡ 0 → at ≡ planes_at s
-  pub long : n ≡ 0 → at + 384 * (size.w * size.h) ≤ length s
+abbrev pub colour_checks : Option (Bor (List ℕ)) → List (ℕ × Bool)
+colour_checks c = (16, other_value c) ∷ []
+
+abbrev pub bad_two : ℕ → ℕ → Bool
+bad_two n m = not (eqb (n % 16) 0) || not (eqb (m % 16) 0) || bad_size (record { w = n / 16; h = m / 16 })
+
+abbrev pub side_checks : ℕ → ℕ → List (ℕ × Bool)
+side_checks w h = (17, bad_two w h) ∷ []
+
+-- .. and what they find: a number, a size
+abbrev pub OneNumber : List (List ℕ) → Result ℕ Refusal → Type 0
+OneNumber vs r = MatchResult r (λ n. (one_number vs ≡ true) × (n ≡ capped (pixels vs))) (λ e. (one_number vs ≡ false) × (e ≡ Malformed))
+
+abbrev pub SizeOf : ℕ → ℕ → Result Size Refusal → Type 0
+SizeOf w h r = IfOk r (λ s. (s ≡ record { w = w / 16; h = h / 16 }) × GoodSize s)
+
+abbrev pub SizeIn : List ℕ → Result Size Refusal → Type 0
+SizeIn l r = IfOk r (λ s. (s ≡ size_in l) × GoodSize s)
+
+-- what a stream holds that no check from 15 to 18 refuses
+pub record Seen (s : List ℕ) (size : Size) (planes : List ℕ) : Type 0 where
+  pub sized : size ≡ size_said s
+  pub within : GoodSize size
+  pub behind : planes ≡ drop (planes_at s) s
+  pub long : 384 * (size.w * size.h) ≤ length planes
+
+abbrev pub SeenIn : List ℕ → Result Stream Refusal → Type 0
+SeenIn s r = IfOk r (λ t. Seen s t.size t.planes.now)
 
 -- ---- a stream that is being written
 -- a side in pixels: it has two to four digits

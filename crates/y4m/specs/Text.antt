@@ -1,5 +1,7 @@
 -- Text as YUV4MPEG2 has it: lines between newlines, words between single spaces, numbers in decimal.
 use Rattle.std.specs.Prelude.{ℕ, zero, suc, ◌+◌, ◌*◌, ◌-◌, ◌/◌, ◌%◌, Bool, true, false, cond, ◌&&◌, List, [], ◌∷◌, ◌++◌, eqb, ltb, leb, get_or, drop}
+use Rattle.std.specs.Cmp.Lexicographic.{pointwise}
+use Rattle.std.specs.List.{list_all}
 use Prim.Native.Char.{code}
 use Prim.Native.String.{String, [] as empty, ◌∷◌ as ◌then◌}
 
@@ -19,10 +21,7 @@ space = letter " "
 
 -- two texts are equal
 abbrev pub same_text : List ℕ → List ℕ → Bool
-same_text [] [] = true
-same_text [] (y ∷ ys) = false
-same_text (x ∷ xs) [] = false
-same_text (x ∷ xs) (y ∷ ys) = eqb x y && same_text xs ys
+same_text xs ys = pointwise eqb xs ys
 
 abbrev pub is_full : List ℕ → Bool
 is_full [] = false
@@ -30,8 +29,7 @@ is_full (x ∷ xs) = true
 
 -- every element passes a test
 abbrev pub all : {A : Type 0} → (A → Bool) → List A → Bool
-all p [] = true
-all p (x ∷ xs) = p x && all p xs
+all p xs = list_all p xs
 
 -- the parts of a text between the bytes b: one part more than there are such bytes, and a part may be empty
 abbrev pub on_first : ℕ → List (List ℕ) → List (List ℕ)

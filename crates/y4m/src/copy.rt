@@ -1,5 +1,7 @@
-// Bytes copied two at a time: of one at a time the compiler makes a call of C's memcpy, and the archive for C
-// is to need no library.
+// Bytes copied two at a time. Kept: (1) rule of the project: of one at a time, as of `copy_from_slice`, the
+// compiler makes a call of C's memcpy, and the archive for C is to need no library (`examples/run` holds it
+// to that); (4) a `while`: after chunks of two a last byte is left over as it is here, and both lists would
+// be cut in chunks.
 ghost use Rattle.std.specs.Prelude.{◌≡◌, ◌++◌, ◌≤◌, length, drop};
 
 pub fn copy_all(from: &[u8], to: &mut [u8])

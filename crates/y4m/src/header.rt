@@ -1,101 +1,88 @@
 // The two lines of a stream, and the checks of them: 15, 16 and 17.
-ghost use Rattle.std.specs.Prelude.{◌≡◌, true, not, leb, length};
+ghost use Rattle.std.specs.Prelude.{◌≡◌, []};
 ghost use Rattle.laws.specs.Refusal.{refusal};
+ghost use Rattle.refusals.specs.Refusals.{number_of};
 ghost use Rattle.y4m.specs.Text.{tags_of, values_of};
-ghost use Rattle.y4m.specs.Stream.{well_formed, one_number, colours, good_header, is_ours, other_planes, pixels, bad_sides};
-ghost use Rattle.y4m.specs.Places.{capped, line_checks};
+ghost use Rattle.y4m.specs.Stream.{well_formed, is_ours};
+ghost use Rattle.y4m.specs.Places.{OneNumber, form_checks, colour_checks, side_checks, line_checks, SizeOf, SizeIn};
 
-use crate::text::{end_of, has_gap, is_decimal, tagged, value};
-use check::same;
+use crate::text::{first_word, has_no_gap, is_decimal, tagged, value};
+use refusals::Refusal;
 use sizes::{Size, bad_size};
 
-fn well_formed(line: &[u8], first: &[u8]) -> bool
+fn is_well_formed(line: &[u8], first: &[u8]) -> bool
     ensures { result ≡ well_formed first.now line.now }
 {
-    let e = end_of(line, 0, b' ');
-    same(&line[..e], first) & !has_gap(line)
+    first_word(line) == first && has_no_gap(line)
 }
 
-// Whether a tag t is there once, with a number.
-fn one_number(line: &[u8], t: u8) -> bool
-    requires { t ≡ 32 → ⊥ }
-    ensures { result ≡ one_number (values_of t (tags_of line.now)) }
+fn check_form(line: &[u8], first: &[u8]) -> Result<(), Refusal>
+    ensures { number_of result ≡ refusal (form_checks first.now line.now) }
 {
-    let tags = tagged(line, t);
-    let from = tags.from;
-    let to = tags.to;
-    (tags.times == 1) & is_decimal(&line[from..to])
+    if is_well_formed(line, first) {
+        Ok(())
+    } else {
+        Err(Refusal::Malformed)
+    }
 }
 
-// That number, in pixels.
-pub fn side(line: &[u8], t: u8) -> usize
-    requires { t ≡ 32 → ⊥ }
-    ensures { result ≡ capped (pixels (values_of t (tags_of line.now))) }
+// The number of a tag t, in pixels, which is to be there once.
+fn side(line: &[u8], t: u8) -> Result<usize, Refusal>
+    ensures { OneNumber (values_of t (tags_of line.now)) result }
 {
-    let tags = tagged(line, t);
-    let from = tags.from;
-    let to = tags.to;
-    value(&line[from..to])
+    match tagged(line, t)? {
+        Some(digits) if is_decimal(digits) => Ok(value(digits)),
+        _ => Err(Refusal::Malformed),
+    }
 }
 
 fn is_ours(c: &[u8]) -> bool
     ensures { result ≡ is_ours c.now }
 {
-    same(c, b"420") | same(c, b"420jpeg") | same(c, b"420mpeg2") | same(c, b"420paldv")
+    let ours = [
+        b"420".as_slice(),
+        b"420jpeg".as_slice(),
+        b"420mpeg2".as_slice(),
+        b"420paldv".as_slice(),
+    ];
+    ours.contains(&c)
 }
 
-fn bad_header(line: &[u8]) -> bool
-    ensures { result ≡ not (good_header line.now) }
+// Check 16, of the value of the tag C.
+fn check_colours(c: Option<&[u8]>) -> Result<(), Refusal>
+    ensures { number_of result ≡ refusal (colour_checks c.entry) }
 {
-    let start = well_formed(line, b"YUV4MPEG2");
-    let w = one_number(line, b'W');
-    let h = one_number(line, b'H');
-    let c = tagged(line, b'C');
-    !(start & w & h & (c.times <= 1))
-}
-
-// Check 16.
-fn other_planes(line: &[u8]) -> bool
-    requires { leb (length (colours line.now)) 1 ≡ true }
-    ensures { result ≡ other_planes line.now }
-{
-    let c = tagged(line, b'C');
-    if c.times == 0 {
-        return false;
+    match c {
+        Some(c) if !is_ours(c) => Err(Refusal::OtherPlanes),
+        _ => Ok(()),
     }
-    let from = c.from;
-    let to = c.to;
-    !is_ours(&line[from..to])
 }
 
-// Check 17.
-fn bad_sides(line: &[u8]) -> bool
-    ensures { result ≡ bad_sides line.now }
+// Check 17, of sides in pixels; and the size in macroblocks.
+fn size_of(w: usize, h: usize) -> Result<Size, Refusal>
+    ensures number { number_of result ≡ refusal (side_checks w h) }
+    ensures size { SizeOf w h result }
 {
-    let w = side(line, b'W');
-    let h = side(line, b'H');
     let size = Size {
         w: w / 16,
         h: h / 16,
     };
-    (w % 16 != 0) | (h % 16 != 0) | bad_size(size)
+    if w % 16 != 0 || h % 16 != 0 || bad_size(size) {
+        return Err(Refusal::Sides);
+    }
+    Ok(size)
 }
 
 // Checks 15 to 17 of a header line and a FRAME line.
-pub fn refuse_lines(line: &[u8], frame: &[u8]) -> u32
-    ensures { result ≡ refusal (line_checks line.now frame.now) }
+pub fn check_lines(line: &[u8], frame: &[u8]) -> Result<Size, Refusal>
+    ensures number { number_of result ≡ refusal (line_checks line.now frame.now) }
+    ensures size { SizeIn line.now result }
 {
-    if bad_header(line) {
-        return 15;
-    }
-    if !well_formed(frame, b"FRAME") {
-        return 15;
-    }
-    if other_planes(line) {
-        return 16;
-    }
-    if bad_sides(line) {
-        return 17;
-    }
-    0
+    check_form(line, b"YUV4MPEG2")?;
+    let w = side(line, b'W')?;
+    let h = side(line, b'H')?;
+    let c = tagged(line, b'C')?;
+    check_form(frame, b"FRAME")?;
+    check_colours(c)?;
+    size_of(w, h)
 }

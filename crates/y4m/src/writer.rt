@@ -1,5 +1,11 @@
 // The calls that write a stream.
-ghost use Rattle.std.specs.Prelude.{◌≡◌, false, ◌++◌, ◌+◌, ◌*◌, ◌≤◌, length};
+// Kept: (4) that a side can be written is asked of each by one name (`Pixels`): a type for it would be made
+// twice in `write`, and taken apart where its digits are put; (4) luma, u, v for a struct, which
+// `WriteOutcome` would take apart: `Planes` of edges is lent to be changed, and is the filter's, on which
+// this crate does not stand.
+ghost use Rattle.std.specs.Prelude.{◌≡◌, true, false, MatchResult, ◌++◌, ◌+◌, ◌*◌, ◌≤◌, length};
+ghost use Rattle.refusals.specs.Refusals.{number_of};
+ghost use Rattle.refusals.specs.declared.Refusal.TheVariants.{Size as TooLarge};
 ghost use Rattle.sizes.specs.Sizes.{bad_size};
 ghost use Rattle.y4m.specs.Text.{decimal};
 ghost use Rattle.y4m.specs.Stream.{lines_with};
@@ -7,6 +13,7 @@ ghost use Rattle.y4m.specs.Calls.{LengthOutcome, WriteOutcome, length_for};
 ghost use Rattle.y4m.specs.Places.{Put, Pixels, digit_count, digit_of, four_digits};
 
 use crate::copy::copy_all;
+use refusals::Refusal;
 use sizes::{Size, bad_planes, bad_size};
 
 // How many digits a side in pixels has: from 16 to 4096 two to four.
@@ -14,13 +21,11 @@ fn digits(n: usize) -> usize
     ensures lower_bound { (2 ≤ result) × (result ≤ 4) }
     ensures value { result ≡ digit_count n }
 {
-    if n < 100 {
-        return 2;
+    match n {
+        0..=99 => 2,
+        100..=999 => 3,
+        _ => 4,
     }
-    if n < 1000 {
-        return 3;
-    }
-    4
 }
 
 // The length of a stream of a size that is not refused.
@@ -28,20 +33,28 @@ fn whole(size: Size) -> usize
     requires { bad_size size ≡ false }
     ensures { result ≡ length_for size }
 {
-    30 + digits(16 * size.w) + digits(16 * size.h) + 384 * (size.w * size.h)
+    30 + digits(16 * size.w) + digits(16 * size.h) + 384 * size.count()
 }
 
-// How long a stream of a picture is: 0 where its size is refused.
+// How long a stream of a picture is.
+pub fn checked_length(size: Size) -> Result<usize, Refusal>
+    ensures { MatchResult result (λ n. (bad_size size ≡ false) × (n ≡ length_for size)) (λ e. (bad_size size ≡ true) × (e ≡ TooLarge)) }
+{
+    if bad_size(size) {
+        return Err(Refusal::Size);
+    }
+    Ok(whole(size))
+}
+
+// .. or 0 where its size is refused. Kept: (1) the C interface has this answer (`LengthOutcome`).
 pub fn length(size: Size) -> usize
     ensures { LengthOutcome size result }
 {
-    if bad_size(size) {
-        return 0;
-    }
-    whole(size)
+    checked_length(size).unwrap_or(0)
 }
 
-// Puts a text at a place of the stream, and answers where it ends.
+// Puts a text at a place of the stream, and answers where it ends. Kept: (4) by `split_at_mut` each of the
+// five pieces of the two lines has its length beside it, which is no plainer.
 fn put(stream: &mut [u8], at: usize, text: &[u8]) -> usize
     requires { at + length text.now ≤ length stream.old }
     ensures { Put stream.old at text.now result stream.new }
@@ -50,14 +63,15 @@ fn put(stream: &mut [u8], at: usize, text: &[u8]) -> usize
     at + text.len()
 }
 
-// The last digit of a number.
+// The last digit of a number. Kept: (4) the cast loses nothing, which `try_from` would have to be told anew.
 fn last_digit(n: usize) -> u8
     ensures { result ≡ digit_of n }
 {
     b'0' + (n % 10) as u8
 }
 
-// The last four digits, zeros in front.
+// The last four digits, zeros in front. Kept: (4) a formatter into a buffer of its own, from which the text
+// is then copied, is no plainer for at most four digits.
 fn four(n: usize) -> [u8; 4]
     ensures value { 4 ≡ length result }
     ensures value_2 { result ≡ four_digits n }
@@ -106,20 +120,16 @@ fn put_all(stream: &mut [u8], w: usize, h: usize, luma: &[u8], u: &[u8], v: &[u8
 }
 
 // Writes a stream of one picture.
-pub fn write(size: Size, luma: &[u8], u: &[u8], v: &[u8], stream: &mut [u8]) -> u32
-    ensures { WriteOutcome size luma.now u.now v.now stream.old result stream.new }
+pub fn write(size: Size, luma: &[u8], u: &[u8], v: &[u8], stream: &mut [u8]) -> Result<(), Refusal>
+    ensures { WriteOutcome size luma.now u.now v.now stream.old (number_of result) stream.new }
 {
-    if bad_size(size) {
-        return 1;
+    let whole = checked_length(size)?;
+    if bad_planes(size.count(), luma.len(), u.len(), v.len()) {
+        return Err(Refusal::Planes);
     }
-    if bad_planes(size.w * size.h, luma.len(), u.len(), v.len()) {
-        return 3;
+    if stream.len() != whole {
+        return Err(Refusal::Stream);
     }
-    if stream.len() != whole(size) {
-        return 18;
-    }
-    let w = 16 * size.w;
-    let h = 16 * size.h;
-    put_all(stream, w, h, luma, u, v);
-    0
+    put_all(stream, 16 * size.w, 16 * size.h, luma, u, v);
+    Ok(())
 }

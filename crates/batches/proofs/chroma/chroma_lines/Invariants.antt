@@ -9,4 +9,4 @@ use Rattle.batches.specs.Lines.{chroma_with}
 use Rattle.batches.proofs.chroma.chroma_lines.Given as goal
 
 abbrev pub invariant-loop-k : goal.invariant-loop-k
-invariant-loop-k l = l.plane ≡ up_to l.k (λ j. chroma_at (chroma_with eight l.l (get_or l.bs (j / 2) 0)) (l.at + j * l.along) l.step) l.initial.plane
+invariant-loop-k l = l.plane ≡ up_to l.k (λ j. chroma_at (chroma_with eight l.l (get_or l.bs (j / 2) 0)) (l.lines.at + j * l.lines.along) l.lines.step) l.initial.plane

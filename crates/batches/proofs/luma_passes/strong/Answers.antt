@@ -1,4 +1,5 @@
 -- `strong`: what the lines are lent is the pass's. Assumes nothing.
+use Rattle.std.proofs.Common.{rules}
 use mathlib.Core.Path.{◌∙◌}
 use native.Mathlib.Omega.{arith}
 use Rattle.laws.proofs.Loop.{up_to-end}
@@ -9,4 +10,4 @@ use Rattle.batches.proofs.luma_passes.strong.Goals as goal
 pub returns : goal.returns
 returns c =
     let a = c.args in
-    up_to-end _ 16 _ _ c.loop-k.invariant.1 (omega arith) (omega arith) ∙ long-strong eight a.s a.l c.strong_row.ensures c.four_each-al.ensures a.t
+    up_to-end _ 16 _ _ c.loop-k.invariant.1 (omega arith) (omega arith) ∙ long-strong eight a.e.s a.e.by c.strong_row-row.ensures (c.four_each-al.ensures _ (λ i x h p. search rules)) a.t

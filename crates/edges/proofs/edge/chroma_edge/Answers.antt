@@ -2,7 +2,6 @@
 use mathlib.Core.Path.{◌∙◌}
 use Rattle.lines.specs.Depth.{eight}
 use Rattle.edges.specs.Edge.{chroma_edge}
-use Rattle.edges.specs.Macroblock.{after}
 use Rattle.edges.specs.Picture.{entries}
 use Rattle.edges.proofs.FourSegments.{short-segments}
 use Rattle.edges.proofs.RulesByThresholds.{chroma-by}
@@ -11,6 +10,6 @@ use Rattle.edges.proofs.edge.chroma_edge.Goals as goal
 pub returns : goal.returns
 returns c =
     let a = c.args in
-    rw (c.four_strengths-s.ensures, c.of_edge-by.ensures.is) at c.chroma_lines.ensures
-    ∙ short-segments _ _ _ a.at a.along a.step a.plane.now
-    ∙ (λ i. chroma_edge (chroma-by eight a.l i) (after a.base (entries a.strengths.now)) a.at a.along a.step a.plane.now)
+    rw (c.four_strengths.ensures, c.of_edge.ensures.is) at c.chroma_lines.ensures
+    ∙ short-segments _ _ _ a.lines.at a.lines.along a.lines.step a.plane.now
+    ∙ (λ i. chroma_edge (chroma-by eight a.l i) (entries a.strengths.now) a.lines.at a.lines.along a.lines.step a.plane.now)

@@ -1,4 +1,4 @@
--- `all_zero`: after k turns the first k strengths are looked at. Assumes nothing.
+-- `all_zero`: after a turn all strengths up to it were looked at. Assumes nothing.
 use Prim.Native.Nat.{ℕ}
 use mathlib.Core.Path.{◌≡◌}
 use mathlib.Core.Bool.{Bool, true, ◌&&◌}
@@ -8,5 +8,5 @@ use Rattle.edges.specs.Macroblock.{after}
 use Rattle.edges.specs.Picture.{entries}
 use Rattle.edges.proofs.macroblock.all_zero.Given as goal
 
-abbrev pub invariant-loop-k : goal.invariant-loop-k
-invariant-loop-k l = l.all ≡ up_to l.k (λ (j : ℕ) (b : Bool). b && eqb (after l.base (entries l.strengths) j) 0) true
+abbrev pub invariant-loop-s : goal.invariant-loop-s
+invariant-loop-s l = l.all ≡ up_to l.s-index (λ (j : ℕ) (b : Bool). b && eqb (after l.base (entries l.strengths) j) 0) true

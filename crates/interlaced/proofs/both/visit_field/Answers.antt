@@ -1,10 +1,10 @@
--- Each return is the visit of its field.
+-- Each return is the visit of its field. Assumes nothing.
 use Rattle.std.proofs.Common.{rules}
 use Rattle.interlaced.proofs.Calls.{top-visited, bottom-visited}
 use Rattle.interlaced.proofs.both.visit_field.Goals as goal
 
-pub returns-then-top : goal.returns-then-top
-returns-then-top c = top-visited _ _ _ _ _ _ (search rules) c.visit.ensures
+pub returns-then-top-clause-outcome : goal.returns-then-top-clause-outcome
+returns-then-top-clause-outcome c = top-visited _ _ _ _ _ _ (search rules) c.visit.ensures.outcome
 
-pub returns : goal.returns
-returns c = bottom-visited _ _ _ _ _ _ (search rules) c.visit-2.ensures
+pub returns-clause-outcome : goal.returns-clause-outcome
+returns-clause-outcome c = bottom-visited _ _ _ _ _ _ (search rules) c.visit-2.ensures.outcome

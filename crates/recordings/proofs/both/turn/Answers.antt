@@ -1,12 +1,7 @@
 use Rattle.recordings.proofs.Turns.{turn}
 use Rattle.recordings.proofs.both.turn.Goals as goal
 
-pub returns-then-g : goal.returns-then-g
-returns-then-g c =
+pub returns-clause-is : goal.returns-clause-is
+returns-clause-is c =
     let a = c.args in
-    rw c.if-g.true (turn a.way a.ahead a.part _ a.h.n a.k c.place-i.ensures c.column-x.ensures c.row-y.ensures c.visit_sliced.ensures)
-
-pub returns : goal.returns
-returns c =
-    let a = c.args in
-    rw c.if-g.false (turn a.way a.ahead a.part _ a.h.n a.k c.place-i.ensures c.column-x.ensures c.row-y.ensures c.visit.ensures)
+    turn a.way a.ahead a.part _ a.recorded.now.n a.k c.place-i.ensures c.column-x.ensures c.row-y.ensures c.visit.ensures.outcome

@@ -1,13 +1,17 @@
-use Rattle.recordings.specs.Orders.{recording}
+use Rattle.std.proofs.Common.{refl, ap, ◌∙◌}
+use Rattle.std.specs.Option.{is_some}
+use Rattle.recordings.specs.Orders.{first_part}
+use Rattle.recordings.specs.Tried.{recording}
 use Rattle.recordings.proofs.Turns.{one-whole, two-wholes}
 use Rattle.recordings.proofs.both.whole_of_both.Goals as goal
 
-pub returns-then-not-h : goal.returns-then-not-h
-returns-then-not-h c =
+pub returns-in_default-clause-is : goal.returns-in_default-clause-is
+returns-in_default-clause-is c =
     let a = c.args in
-    one-whole (recording a.h a.rs.now a.ns.now a.s.now a.q.now a.t.now a.rs2.now a.ns2.now a.s2.now a.q2.now a.t2.now) c.first_part-part.ensures _ c.whole.ensures c.if-not-h.true
+    one-whole (recording a.recorded.now) (c.first_part-part.ensures ∙ ap first_part c.is_some.ensures) _ c.whole.ensures.is (ap is_some c.in_default.is)
 
-pub returns : goal.returns
-returns c =
+pub returns-in-Some-clause-is : goal.returns-in-Some-clause-is
+returns-in-Some-clause-is c =
     let a = c.args in
-    two-wholes (recording a.h a.rs.now a.ns.now a.s.now a.q.now a.t.now a.rs2.now a.ns2.now a.s2.now a.q2.now a.t2.now) c.first_part-part.ensures _ c.whole.ensures c.if-not-h.false c.whole-2.ensures
+    let r = c.args.recorded.now in
+    two-wholes (recording r) (c.first_part-part.ensures ∙ ap first_part c.is_some.ensures) _ c.whole.ensures.is (ap is_some c.in-Some.is) (c.whole-in-Some.ensures.is ∙ rw c.in-Some.is refl)

@@ -1,20 +1,23 @@
+use Rattle.std.proofs.Common.{Bool, ap, ◌∙◌}
 use native.Mathlib.Omega.{arith}
+use Rattle.recordings.specs.Orders.{frames_of, second_of}
 use Rattle.recordings.proofs.Verdict.{becomes, in-space}
 use Rattle.recordings.proofs.orders.holds.Goals as goal
 
 pub returns : goal.returns
 returns c =
-    let e = c.copies.ensures in
-    in-space _ _ _ _ c.luma.result c.chroma.result c.chroma-2.result c.marks.result c.marks-2.result _ c.frames-m.result c.only_if-n2.result
-    (rw c.most.ensures at c.if-most-n.false)
+    let n = c.args.recorded.now.n in
+    let two = c.is_some-two.ensures in
+    in-space _ _ _ _ c.zeros.result c.zeros-2.result c.zeros-3.result c.zeros-4.result c.zeros-5.result _ c.frames-m.result c.second-n2.result
+    (rw (c.most.ensures, two) at c.if-most-n.false)
     c.frames-m.ensures.lower_bound.1
-    c.frames-m.ensures.value
+    (c.frames-m.ensures.value ∙ ap (λ (b : Bool). frames_of b n) two)
     (omega (arith, c.frames-m.ensures.lower_bound))
-    c.only_if-n2.ensures.upper_bound
-    c.only_if-n2.ensures.value
-    c.luma.ensures.value_2
-    c.chroma.ensures.value_2
-    c.chroma-2.ensures.value_2
-    c.marks.ensures.value_2
-    c.marks-2.ensures.value_2
-    (becomes _ _ _ _ (rw (e.0, e.1, e.2) at c.filter.ensures) c.is_whole.ensures c.all_ones.ensures c.all_ones-2.ensures c.same.ensures)
+    c.second-n2.ensures.upper_bound
+    (c.second-n2.ensures.value ∙ ap (λ (b : Bool). second_of b n) two)
+    c.zeros.ensures.value
+    c.zeros-2.ensures.value
+    c.zeros-3.ensures.value
+    c.zeros-4.ensures.value
+    c.zeros-5.ensures.value
+    (becomes _ _ _ (rw (c.copy.ensures, c.copy-2.ensures, c.copy-3.ensures) at c.filter.ensures.is) c.is_whole.ensures c.is_visited.ensures c.are_same.ensures)

@@ -8,5 +8,6 @@ use Rattle.strengths.proofs.asks.ask.Goals as goal
 pub overflow_sub-both : goal.overflow_sub-both
 overflow_sub-both c =
     let a = c.args in
-    let b = (or-false (border a.x a.y a.k) (skipped a.t8 a.k) (sym c.no_edge.ensures ∙ c.if-no_edge.false)).0 in
-    rw c.by_way.ensures (outer-there a.w a.x a.y a.k c.if-k-ne0.false b)
+    let p = a.blocks.place in
+    let b = (or-false (border p.x p.y a.k) (skipped a.t8 a.k) (sym c.no_edge.ensures ∙ c.if-no_edge.false)).0 in
+    rw (c.by_way.ensures, c.stride.ensures, c.origin-at.ensures) (outer-there p.w p.x p.y a.k c.if-k-ne0.false b)

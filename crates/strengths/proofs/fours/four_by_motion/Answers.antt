@@ -1,17 +1,23 @@
-use Rattle.std.proofs.Common.{ℕ, ◌+◌, set, ap, ◌∙◌}
+use Rattle.std.proofs.Common.{◌≡◌, ℕ, ◌+◌, length, sym, set, ap, ◌∙◌, rules}
 use borrow.Author.Tests.{eqb-true}
 use Rattle.laws.proofs.Bools.{and-true}
 use Rattle.laws.proofs.Loop.{up_to-same}
 use Rattle.motion.proofs.Lone.{lone_is}
 use Rattle.strengths.specs.ByKind.{either_coded}
+use Rattle.strengths.specs.Edges.{lone_by}
 use Rattle.strengths.specs.Strength.{p_block, q_block}
 use Rattle.strengths.proofs.fours.four_by_motion.Goals as goal
 
-pub returns-then-ref1-pictures0 : goal.returns-then-ref1-pictures0
-returns-then-ref1-pictures0 c =
+pub returns-then-is_empty : goal.returns-then-is_empty
+returns-then-is_empty c =
     let a = c.args in
-    let e = and-true _ _ c.if-ref1-pictures0.true in
-    c.four_lone.ensures
+    let e = a.edge in
+    let p = e.blocks.place in
+    let g = a.g.now in
+    let b = and-true _ _ c.if-is_empty.true in
+    let r : length g.list1.references.now ≡ 0 = eqb-true _ _ (sym c.is_empty.ensures ∙ b.0) in
+    let t : length g.list0.pictures.now ≡ 0 = eqb-true _ _ (sym c.is_empty-2.ensures ∙ b.1) in
+    c.fill_four.ensures (λ s. lone_by a.limit g.nnz.now g.list0.references.now g.list0.vectors.now p.w e.t p.x p.y (e.k + s)) (λ s n h q. search rules)
     ∙ up_to-same 4 _ _ a.strengths.now (λ s u h. ap (λ (n : ℕ). set u (a.to + s) n)
-    (lone_is a.limit (either_coded a.nnz.now a.w a.t a.x a.y (a.k + s)) a.inter.now a.ref0.now a.mv0.now a.ref1.now a.mv1.now a.pictures0.now a.pictures1.now
-    (p_block a.w a.x a.y (a.k + s)) (q_block a.w a.x a.y (a.k + s)) (eqb-true _ _ e.0) (eqb-true _ _ e.1)))
+    (lone_is a.limit (either_coded g.nnz.now p.w e.t p.x p.y (e.k + s)) g.inter.now g.list0.references.now g.list0.vectors.now g.list1.references.now g.list1.vectors.now g.list0.pictures.now g.list1.pictures.now
+    (p_block p.w p.x p.y (e.k + s)) (q_block p.w p.x p.y (e.k + s)) r t))

@@ -1,7 +1,6 @@
-use Rattle.std.proofs.Common.{◌*◌, sym, ap, ◌∙◌}
+use Rattle.std.proofs.Common.{◌≡◌, true, ◌==◌, slice_index, sym, ap, ◌∙◌}
 use Rattle.laws.proofs.Bools.{and-true}
-use Rattle.motion.specs.Grids.{grids}
-use Rattle.strengths.specs.Blocks.{origin}
+use Rattle.motion.specs.Lent.{grids_of}
 use Rattle.strengths.specs.Kinds.{is_kind}
 use Rattle.strengths.proofs.InterAgrees.{known-kind, found-kind}
 use Rattle.strengths.proofs.OwnAlike.{one-motion}
@@ -9,17 +8,16 @@ use Rattle.strengths.proofs.macroblocks.kind_found.Goals as goal
 
 pub returns-then-first-says_any : goal.returns-then-first-says_any
 returns-then-first-says_any c =
-    let a = c.args in
-    let g = grids a.inter.now a.nnz.now a.ref0.now a.mv0.now a.ref1.now a.mv1.now a.pictures0.now a.pictures1.now in
-    ap (is_kind g a.w a.x a.y) c.kind_of.ensures
-    ∙ found-kind g a.w a.x a.y c.requires.y_value c.own_alike-alike.result
-    (and-true _ _ c.if-first-says_any.true).0
-    (λ e. one-motion a.inter.now a.ref0.now a.mv0.now a.ref1.now a.mv1.now a.pictures0.now a.pictures1.now (origin a.w a.x a.y) (4 * a.w)
-    (sym c.own_alike-alike.ensures ∙ e))
+    let a = c.args.blocks.place in
+    let g = grids_of c.args.g.now in
+    let first : (slice_index c.args.g.now.inter.now c.origin.result == 1) ≡ true = (and-true _ _ c.if-first-says_any.true).0 in
+    ap (is_kind g a.w a.x a.y) c.of_flags.ensures
+    ∙ found-kind g a.w a.x a.y c.requires.agree c.own_alike.result
+    (rw c.origin.ensures at first)
+    (λ e. one-motion g a.w a.x a.y (sym c.own_alike.ensures ∙ e))
 
 pub returns : goal.returns
 returns c =
-    let a = c.args in
-    let g = grids a.inter.now a.nnz.now a.ref0.now a.mv0.now a.ref1.now a.mv1.now a.pictures0.now a.pictures1.now in
-    ap (is_kind g a.w a.x a.y) c.kind_known.ensures
-    ∙ known-kind g a.w a.x a.y c.requires.y_value a.known c.requires.y_value_2
+    let a = c.args.blocks.place in
+    let g = grids_of c.args.g.now in
+    ap (is_kind g a.w a.x a.y) (rw c.origin.ensures at c.kind.ensures) ∙ known-kind g a.w a.x a.y c.requires.agree c.args.known c.requires.said

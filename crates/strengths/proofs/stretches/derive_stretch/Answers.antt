@@ -1,10 +1,16 @@
-use Rattle.std.proofs.Common.{◌+◌, arith}
-use Rattle.motion.specs.Grids.{grids}
+use Rattle.std.proofs.Common.{◌≡◌, ◌+◌, arith, rules}
+use Rattle.motion.specs.Lent.{grids_of}
+use Rattle.refusals.specs.Refusals.{number_of, code_of}
+use Rattle.refusals.proofs.Codes.{code-positive}
+use Rattle.strengths.specs.Told.{known_of, kinds_of}
 use Rattle.strengths.proofs.Along.{lengths-first}
 use Rattle.strengths.proofs.stretches.derive_stretch.Goals as goal
 
-pub returns-then-n-ne0 : goal.returns-then-n-ne0
-returns-then-n-ne0 c =
+pub returns-in_err-check_lengths : goal.returns-in_err-check_lengths
+returns-in_err-check_lengths c =
     let a = c.args in
-    let g = grids a.inter.now a.nnz.now a.ref0.now a.mv0.now a.ref1.now a.mv1.now a.pictures0.now a.pictures1.now in
-    lengths-first a.size a.field a.y a.known a.kinds.now a.t8s.now g a.strengths.now a.from (a.last + 1) _ (omega (arith, c.requires.from_le_last.0)) c.refuse_lengths-n.ensures c.if-n-ne0.true
+    let s = a.source.now in
+    let r = c.in_err-check_lengths.field-0.0 in
+    let same : number_of c.from_residual.result ≡ code_of r = search rules in
+    rw same
+    (lengths-first s.size s.field a.stretch.y (known_of a.told) (kinds_of a.told) s.t8s.now (grids_of s.grids) a.strengths.now a.stretch.first (a.stretch.last + 1) _ (omega (arith, c.args.stretch.in_order)) c.in_err-check_lengths.ensures (code-positive r))

@@ -1,34 +1,23 @@
--- `visit`: the five ways out are those of the promise. Assumes nothing.
-use Rattle.std.proofs.Common.{◌≡◌, ℕ, ◌+◌, ◌*◌, ◌<◌, Bool, false, List, length, refl, sym, ap, ◌∙◌, arith}
-use borrow.Author.Tests.{eq-eqb, ne_eqb}
-use Rattle.laws.specs.Refusal.{refusal}
-use Rattle.edges.specs.Alike.{held_as}
+-- `visit`: the ways out are those of the promise. Assumes nothing.
+use Rattle.std.proofs.Common.{◌≡◌, ℕ, ◌+◌, ◌*◌, ◌<◌, ◌≤◌, List, length, rules, set, sym, ap, ◌∙◌, arith}
 use Rattle.edges.specs.Fields.{on_part}
 use Rattle.edges.specs.Laid.{layout_of, laid_mb}
-use Rattle.edges.specs.Picture.{Planes, planes, entries, step_of}
-use Rattle.edges.specs.declared.EdgesOn.{EdgesOn}
-use Rattle.edges.specs.declared.Offsets.{Offsets}
+use Rattle.edges.specs.LentPlanes.{samples}
+use Rattle.edges.specs.Picture.{Planes, step_of}
 use Rattle.edges.proofs.OnPart.{mb-on-part}
 use Rattle.edges.proofs.Pictures.{step-index}
-use Rattle.edges.proofs.Unchanged.{laid-still, all-zero}
+use Rattle.refusals.specs.Refusals.{number_of, code_of}
+use Rattle.refusals.proofs.Codes.{code-positive}
 use Rattle.sizes.specs.declared.Part.{Part}
-use Rattle.sizes.specs.declared.Size.{Size}
-use Rattle.slices.specs.Table.{bad_offsets}
-use Rattle.pictures.specs.Checks.{Lent, lent, held_of}
+use Rattle.sizes.proofs.Sized.{frame-of-part-le}
+use Rattle.pictures.specs.Checks.{Lent, held_of}
+use Rattle.pictures.specs.Inner.{GridsHold}
+use Rattle.pictures.specs.LentData.{given}
 use Rattle.visits.specs.Checks.{early_in}
-use Rattle.visits.specs.Inner.{shared_visit_checks}
 use Rattle.visits.specs.Visit.{At}
-use Rattle.visits.proofs.Outcome.{answer-early, answer-13, answer-14, answer-0, refused-outcome, done-outcome}
-use Rattle.visits.proofs.VisitFits.{VisitFits, checked-visit-fits, index, in-picture, room}
+use Rattle.visits.proofs.Outcome.{answer-early, answer-late, refused-outcome, done-outcome}
+use Rattle.visits.proofs.VisitFits.{VisitFits, checked-visit-fits, checked-grids, index, in-picture, row-inside}
 use Rattle.visits.proofs.visits.visit.Goals as goal
-
--- the checks, made with what `bad_offsets` told
-early : (part : Part) (size : Size) (o : Offsets) (p : Planes) (strengths qps t8s marks : List ℕ) (r : At) {n : ℕ} {six : Bool}
-    → n ≡ refusal (shared_visit_checks part size r false six (length p.luma) (length p.u) (length p.v) strengths qps t8s marks)
-    → six ≡ bad_offsets o → n ≡ early_in part (lent size o strengths qps t8s) (p, marks) r
-unfolding early_in
-early part size o p strengths qps t8s marks r e k =
-    e ∙ ap (λ (six : Bool). refusal (shared_visit_checks part size r false six (length p.luma) (length p.u) (length p.v) strengths qps t8s marks)) k
 
 -- where the call goes on after the earlier checks
 module _ (part : Part) (d : Lent) (p : Planes) (marks : List ℕ) (r : At) (z : early_in part d (p, marks) r ≡ 0) where
@@ -39,6 +28,10 @@ module _ (part : Part) (d : Lent) (p : Planes) (marks : List ℕ) (r : At) (z : 
   place : r.1 * d.size.w + r.0 < d.size.w * d.size.h
   place = index part d _ _ _ _ r ok
 
+  hold : (m : ℕ) → m ≤ d.size.w * d.size.h → GridsHold m d
+  unfolding early_in
+  hold = checked-grids part d (length p.luma) (length p.u) (length p.v) marks r z
+
   -- the macroblock where it lies is the step of the picture on its part of the planes
   step-made : laid_mb (held_of d) (layout_of part) r.0 r.1 p ≡ on_part part d.size (step_of (held_of d) (r.1 * d.size.w + r.0)) p
   step-made =
@@ -47,154 +40,71 @@ module _ (part : Part) (d : Lent) (p : Planes) (marks : List ℕ) (r : At) (z : 
       (record { luma = g.fit.luma; u = g.fit.u; v = g.fit.v })
       ∙ (λ i. on_part part d.size (λ t. sym (step-index (held_of d) r.0 r.1 g.column t) i) p)
 
-pub returns-then-n-ne0 : goal.returns-then-n-ne0
-returns-then-n-ne0 c =
+pub returns-in_err-check_early-clause-outcome : goal.returns-in_err-check_early-clause-outcome
+returns-in_err-check_early-clause-outcome c =
     let a = c.args in
-    let d = lent a.size a.o a.strengths.now a.qps.now a.t8s.now in
-    let p = planes a.luma.now a.u.now a.v.now in
-    let e = early a.part a.size a.o p a.strengths.now a.qps.now a.t8s.now a.marks.now (a.x, a.y) c.refuse_early-n.ensures c.bad_offsets.ensures in
-    refused-outcome (answer-early a.size.w (early_in a.part d) (p, a.marks.now) (a.x, a.y) (λ k. c.if-n-ne0.true (e ∙ k)) ∙ sym e) c.if-n-ne0.true
+    let d = given a.picture.size a.lent.now in
+    let r = c.in_err-check_early.field-0.0 in
+    let same : number_of c.from_residual.result ≡ code_of r = search rules in
+    let e = same ∙ c.in_err-check_early.ensures in
+    refused-outcome (answer-early a.picture.size.w (early_in a.picture.part d) (samples a.planes.now, a.marks.now) (a.x, a.y) (λ k. code-positive r (c.in_err-check_early.ensures ∙ k)) ∙ sym e)
+    (λ k. code-positive r (sym same ∙ k))
 
-pub overflow_mul-i : goal.overflow_mul-i
-overflow_mul-i c =
+pub check_ready-requires : goal.check_ready-requires
+check_ready-requires c =
     let a = c.args in
-    let d = lent a.size a.o a.strengths.now a.qps.now a.t8s.now in
-    let p = planes a.luma.now a.u.now a.v.now in
-    let e = early a.part a.size a.o p a.strengths.now a.qps.now a.t8s.now a.marks.now (a.x, a.y) c.refuse_early-n.ensures c.bad_offsets.ensures in
-    let z = sym e ∙ c.if-n-ne0.false in
-    let g = ok a.part d p a.marks.now (a.x, a.y) z in
-    let i = place a.part d p a.marks.now (a.x, a.y) z in
-    record { fits = omega (arith, g.fit.sides.most) }
+    let g = ok a.picture.part (given a.picture.size a.lent.now) (samples a.planes.now) a.marks.now (a.x, a.y) (sym c.in_ok-check_early.ensures) in
+    in-picture a.picture.part (given a.picture.size a.lent.now) _ _ _ _ (a.x, a.y) g (length a.marks.now) g.marks
 
-pub overflow_add-i : goal.overflow_add-i
-overflow_add-i c =
+pub returns-in_err-check_ready-clause-outcome : goal.returns-in_err-check_ready-clause-outcome
+returns-in_err-check_ready-clause-outcome c =
     let a = c.args in
-    let d = lent a.size a.o a.strengths.now a.qps.now a.t8s.now in
-    let p = planes a.luma.now a.u.now a.v.now in
-    let e = early a.part a.size a.o p a.strengths.now a.qps.now a.t8s.now a.marks.now (a.x, a.y) c.refuse_early-n.ensures c.bad_offsets.ensures in
-    let z = sym e ∙ c.if-n-ne0.false in
-    let g = ok a.part d p a.marks.now (a.x, a.y) z in
-    let i = place a.part d p a.marks.now (a.x, a.y) z in
-    record { fits = omega (arith, g.fit.sides.most) }
+    let d = given a.picture.size a.lent.now in
+    let r = c.in_err-check_ready.field-0.0 in
+    let same : number_of c.from_residual-in_err-check_ready.result ≡ code_of r = search rules in
+    refused-outcome (answer-late a.picture.size.w (early_in a.picture.part d) (samples a.planes.now, a.marks.now) (a.x, a.y) (sym c.in_ok-check_early.ensures) ∙ sym (same ∙ c.in_err-check_ready.ensures))
+    (λ k. code-positive r (sym same ∙ k))
+
+pub filter_macroblock-requires-clause-place : goal.filter_macroblock-requires-clause-place
+filter_macroblock-requires-clause-place c =
+    let a = c.args in
+    let g = ok a.picture.part (given a.picture.size a.lent.now) (samples a.planes.now) a.marks.now (a.x, a.y) (sym c.in_ok-check_early.ensures) in
+    (g.fit.parity, omega (arith, g.column), omega (arith, row-inside a.picture.part (given a.picture.size a.lent.now) _ _ _ _ (a.x, a.y) g, g.fit.sides.most))
+
+pub filter_macroblock-requires-clause-planes : goal.filter_macroblock-requires-clause-planes
+filter_macroblock-requires-clause-planes c =
+    let a = c.args in
+    let g = ok a.picture.part (given a.picture.size a.lent.now) (samples a.planes.now) a.marks.now (a.x, a.y) (sym c.in_ok-check_early.ensures) in
+    let m = frame-of-part-le a.picture.part (row-inside a.picture.part (given a.picture.size a.lent.now) _ _ _ _ (a.x, a.y) g) in
+    record { luma = omega (arith, m, g.fit.luma); u = omega (arith, m, g.fit.u); v = omega (arith, m, g.fit.v) }
+
+pub filter_macroblock-requires-clause-grids : goal.filter_macroblock-requires-clause-grids
+filter_macroblock-requires-clause-grids c =
+    let a = c.args in
+    let d = given a.picture.size a.lent.now in
+    let g = ok a.picture.part d (samples a.planes.now) a.marks.now (a.x, a.y) (sym c.in_ok-check_early.ensures) in
+    let h = hold a.picture.part d (samples a.planes.now) a.marks.now (a.x, a.y) (sym c.in_ok-check_early.ensures) (a.y * a.picture.size.w + a.picture.size.w) (row-inside a.picture.part d _ _ _ _ (a.x, a.y) g) in
+    record { strengths = h.strengths; qps = h.qps; t8s = h.t8s; numbers = h.numbers }
+
+pub index-i-requires : goal.index-i-requires
+index-i-requires c =
+    let a = c.args in
+    let d = given a.picture.size a.lent.now in
+    let z = sym c.in_ok-check_early.ensures in
+    omega (arith, place a.picture.part d (samples a.planes.now) a.marks.now (a.x, a.y) z, (ok a.picture.part d (samples a.planes.now) a.marks.now (a.x, a.y) z).fit.sides.most)
 
 pub bounds-marks-i : goal.bounds-marks-i
 bounds-marks-i c =
     let a = c.args in
-    let d = lent a.size a.o a.strengths.now a.qps.now a.t8s.now in
-    let p = planes a.luma.now a.u.now a.v.now in
-    let e = early a.part a.size a.o p a.strengths.now a.qps.now a.t8s.now a.marks.now (a.x, a.y) c.refuse_early-n.ensures c.bad_offsets.ensures in
-    let z = sym e ∙ c.if-n-ne0.false in
-    let g = ok a.part d p a.marks.now (a.x, a.y) z in
-    let i = place a.part d p a.marks.now (a.x, a.y) z in
-    omega (arith, g.marks)
+    let d = given a.picture.size a.lent.now in
+    let z = sym c.in_ok-check_early.ensures in
+    omega (arith, place a.picture.part d (samples a.planes.now) a.marks.now (a.x, a.y) z, (ok a.picture.part d (samples a.planes.now) a.marks.now (a.x, a.y) z).marks)
 
-pub returns-then-marks-i-eq1 : goal.returns-then-marks-i-eq1
-returns-then-marks-i-eq1 c =
+pub returns-clause-outcome : goal.returns-clause-outcome
+returns-clause-outcome c =
     let a = c.args in
-    let d = lent a.size a.o a.strengths.now a.qps.now a.t8s.now in
-    let p = planes a.luma.now a.u.now a.v.now in
-    let e = early a.part a.size a.o p a.strengths.now a.qps.now a.t8s.now a.marks.now (a.x, a.y) c.refuse_early-n.ensures c.bad_offsets.ensures in
-    let z = sym e ∙ c.if-n-ne0.false in
-    refused-outcome (answer-13 a.size.w (early_in a.part d) (p, a.marks.now) (a.x, a.y) z (eq-eqb _ 1 c.if-marks-i-eq1.true)) (omega arith)
-
-pub waits-requires : goal.waits-requires
-waits-requires c =
-    let a = c.args in
-    let d = lent a.size a.o a.strengths.now a.qps.now a.t8s.now in
-    let p = planes a.luma.now a.u.now a.v.now in
-    let e = early a.part a.size a.o p a.strengths.now a.qps.now a.t8s.now a.marks.now (a.x, a.y) c.refuse_early-n.ensures c.bad_offsets.ensures in
-    let z = sym e ∙ c.if-n-ne0.false in
-    let g = ok a.part d p a.marks.now (a.x, a.y) z in
-    in-picture a.part d _ _ _ _ (a.x, a.y) g (length a.marks.now) g.marks
-
-pub returns-then-waits : goal.returns-then-waits
-returns-then-waits c =
-    let a = c.args in
-    let d = lent a.size a.o a.strengths.now a.qps.now a.t8s.now in
-    let p = planes a.luma.now a.u.now a.v.now in
-    let e = early a.part a.size a.o p a.strengths.now a.qps.now a.t8s.now a.marks.now (a.x, a.y) c.refuse_early-n.ensures c.bad_offsets.ensures in
-    let z = sym e ∙ c.if-n-ne0.false in
-    refused-outcome
-    (answer-14 a.size.w (early_in a.part d) (p, a.marks.now) (a.x, a.y) z (ne_eqb _ 1 c.if-marks-i-eq1.false) (sym c.waits.ensures ∙ c.if-waits.true))
-    (omega arith)
-
-pub overflow_mul-i-2 : goal.overflow_mul-i-2
-overflow_mul-i-2 c =
-    let a = c.args in
-    let d = lent a.size a.o a.strengths.now a.qps.now a.t8s.now in
-    let p = planes a.luma.now a.u.now a.v.now in
-    let e = early a.part a.size a.o p a.strengths.now a.qps.now a.t8s.now a.marks.now (a.x, a.y) c.refuse_early-n.ensures c.bad_offsets.ensures in
-    let z = sym e ∙ c.if-n-ne0.false in
-    let g = ok a.part d p a.marks.now (a.x, a.y) z in
-    let i = place a.part d p a.marks.now (a.x, a.y) z in
-    record { fits = omega (arith, g.fit.sides.most) }
-
-pub all_zero-requires : goal.all_zero-requires
-all_zero-requires c =
-    let a = c.args in
-    let d = lent a.size a.o a.strengths.now a.qps.now a.t8s.now in
-    let p = planes a.luma.now a.u.now a.v.now in
-    let e = early a.part a.size a.o p a.strengths.now a.qps.now a.t8s.now a.marks.now (a.x, a.y) c.refuse_early-n.ensures c.bad_offsets.ensures in
-    let z = sym e ∙ c.if-n-ne0.false in
-    let g = ok a.part d p a.marks.now (a.x, a.y) z in
-    let i = place a.part d p a.marks.now (a.x, a.y) z in
-    omega (arith, g.fit.strengths)
-
-pub bounds-marks-i-then-all_zero : goal.bounds-marks-i-then-all_zero
-bounds-marks-i-then-all_zero c =
-    let a = c.args in
-    let d = lent a.size a.o a.strengths.now a.qps.now a.t8s.now in
-    let p = planes a.luma.now a.u.now a.v.now in
-    let e = early a.part a.size a.o p a.strengths.now a.qps.now a.t8s.now a.marks.now (a.x, a.y) c.refuse_early-n.ensures c.bad_offsets.ensures in
-    let z = sym e ∙ c.if-n-ne0.false in
-    let g = ok a.part d p a.marks.now (a.x, a.y) z in
-    let i = place a.part d p a.marks.now (a.x, a.y) z in
-    omega (arith, g.marks)
-
-pub returns-then-all_zero : goal.returns-then-all_zero
-returns-then-all_zero c =
-    let a = c.args in
-    let d = lent a.size a.o a.strengths.now a.qps.now a.t8s.now in
-    let p = planes a.luma.now a.u.now a.v.now in
-    let e = early a.part a.size a.o p a.strengths.now a.qps.now a.t8s.now a.marks.now (a.x, a.y) c.refuse_early-n.ensures c.bad_offsets.ensures in
-    let z = sym e ∙ c.if-n-ne0.false in
-    let n = answer-0 a.size.w (early_in a.part d) (p, a.marks.now) (a.x, a.y) z (ne_eqb _ 1 c.if-marks-i-eq1.false) (sym c.waits.ensures ∙ c.if-waits.false) in
-    let m = step-made a.part d p a.marks.now (a.x, a.y) z in
-    let zeros = all-zero _ (sym c.all_zero.ensures ∙ c.if-all_zero.true) in
-    done-outcome n (sym (laid-still (held_of d) a.x a.y zeros (layout_of a.part) p) ∙ m) refl
-
-pub filter_edges-requires : goal.filter_edges-requires
-filter_edges-requires c =
-    let a = c.args in
-    let d = lent a.size a.o a.strengths.now a.qps.now a.t8s.now in
-    let p = planes a.luma.now a.u.now a.v.now in
-    let e = early a.part a.size a.o p a.strengths.now a.qps.now a.t8s.now a.marks.now (a.x, a.y) c.refuse_early-n.ensures c.bad_offsets.ensures in
-    let z = sym e ∙ c.if-n-ne0.false in
-    let g = ok a.part d p a.marks.now (a.x, a.y) z in
-    (g.fit.parity, omega (arith, g.column), room a.part d _ _ _ _ (a.x, a.y) g)
-
-pub bounds-marks-i-2 : goal.bounds-marks-i-2
-bounds-marks-i-2 c =
-    let a = c.args in
-    let d = lent a.size a.o a.strengths.now a.qps.now a.t8s.now in
-    let p = planes a.luma.now a.u.now a.v.now in
-    let e = early a.part a.size a.o p a.strengths.now a.qps.now a.t8s.now a.marks.now (a.x, a.y) c.refuse_early-n.ensures c.bad_offsets.ensures in
-    let z = sym e ∙ c.if-n-ne0.false in
-    let g = ok a.part d p a.marks.now (a.x, a.y) z in
-    let i = place a.part d p a.marks.now (a.x, a.y) z in
-    omega (arith, g.marks)
-
-pub returns : goal.returns
-returns c =
-    let a = c.args in
-    let d = lent a.size a.o a.strengths.now a.qps.now a.t8s.now in
-    let p = planes a.luma.now a.u.now a.v.now in
-    let e = early a.part a.size a.o p a.strengths.now a.qps.now a.t8s.now a.marks.now (a.x, a.y) c.refuse_early-n.ensures c.bad_offsets.ensures in
-    let z = sym e ∙ c.if-n-ne0.false in
-    let n = answer-0 a.size.w (early_in a.part d) (p, a.marks.now) (a.x, a.y) z (ne_eqb _ 1 c.if-marks-i-eq1.false) (sym c.waits.ensures ∙ c.if-waits.false) in
-    let m = step-made a.part d p a.marks.now (a.x, a.y) z in
-    done-outcome n
-    (c.filter_edges.ensures
-    ∙ ap (λ (k : EdgesOn). laid_mb (held_as a.size.w (entries a.strengths.now) a.qps.now a.t8s.now a.o k) (layout_of a.part) a.x a.y p) c.every_edge-on.ensures
-    ∙ m)
-    refl
+    let d = given a.picture.size a.lent.now in
+    let p = samples a.planes.now in
+    let z = sym c.in_ok-check_early.ensures in
+    done-outcome (answer-late a.picture.size.w (early_in a.picture.part d) (p, a.marks.now) (a.x, a.y) z ∙ sym c.in_ok-check_ready.ensures)
+    (c.filter_macroblock.ensures.is ∙ step-made a.picture.part d p a.marks.now (a.x, a.y) z) (ap (λ (i : ℕ). set a.marks.now i 1) c.index-i.ensures)

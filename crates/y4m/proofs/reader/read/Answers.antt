@@ -1,9 +1,9 @@
 -- What was seen, and planes of other lengths.
-use Rattle.std.proofs.Common.{sym, ◌∙◌}
-use Rattle.y4m.proofs.Outcomes.{wrong-planes}
+use Rattle.std.proofs.Common.{rules}
+use Rattle.y4m.proofs.Outcomes.{turned-away}
 use Rattle.y4m.proofs.reader.read.Goals as goal
 
-pub returns-then-bad_planes : goal.returns-then-bad_planes
-returns-then-bad_planes c =
+pub returns-in_err-size-clause-outcome : goal.returns-in_err-size-clause-outcome
+returns-in_err-size-clause-outcome c =
     let a = c.args in
-    wrong-planes a.stream.now a.luma.now a.u.now a.v.now c.see-seen.ensures c.if-seen-ne0.false (sym c.bad_planes.ensures ∙ c.if-bad_planes.true) c.answered-then-bad_planes.ensures
+    turned-away a.stream.now a.luma.now a.u.now a.v.now c.in_err-size.field-0.0 (search rules) c.in_err-size.ensures.number

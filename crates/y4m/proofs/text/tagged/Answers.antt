@@ -1,37 +1,47 @@
--- None is found, or one and no other, or another behind it.
-use Rattle.std.proofs.Common.{◌≡◌, ℕ, ◌+◌, ◌<◌, ◌≤◌, List, [], ◌∷◌, length, drop, sym, ◌∙◌}
-use borrow.Author.Tests.{le-ltb, lt-ltb}
-use Rattle.y4m.specs.Text.{part, words_of}
-use Rattle.y4m.specs.Places.{values_from, NextTag}
-use Rattle.y4m.proofs.Tags.{values-from-one, none-tagged, one-tagged, more-tagged}
+-- The first two of the line's tags tell how often it has the tag.
+use Rattle.std.proofs.Common.{rules, eqb, refl, sym}
+use borrow.Author.Tests.{tests}
+use Rattle.std.proofs.lemmas.Iterator.Adapters.{YieldsList-from_skip}
+use Rattle.std.proofs.lemmas.Iterator.Consumers.{YieldsList-at, YieldsList-from_filter}
+use Rattle.std.proofs.lemmas.Iterator.Splits.{YieldsList-from_slice_split}
+use Rattle.y4m.specs.Places.{is_tag}
+use Rattle.y4m.proofs.Words.{no-more, one-only, two-more, untagged, tagged-twice, tagged-once}
 use Rattle.y4m.proofs.text.tagged.Goals as goal
 
--- the next place is past the end, or not
-none : {t i r : ℕ} (l : List ℕ) → NextTag t l i r → length l ≤ r → values_from t l i ≡ []
-none {r = r} l n h = n.next ∙ simp (le-ltb r (length l) h)
-
-next : {t i r : ℕ} (l : List ℕ) → NextTag t l i r → r < length l → values_from t l i ≡ part 0 (words_of (drop (r + 1) l)) ∷ values_from t l (r + 1)
-next {r = r} l n h = n.next ∙ simp (lt-ltb r (length l) h)
-
-pub returns-then-line-i : goal.returns-then-line-i
-returns-then-line-i c =
+pub returns-in_default : goal.returns-in_default
+returns-in_default c =
+    let t = c.args.t in
     let l = c.args.line.now in
-    none-tagged l (sym (values-from-one c.args.t l c.requires) ∙ none l c.next_tag-i.ensures c.if-line-i.true)
+    untagged t l (no-more _ _ _
+    (YieldsList-from_filter _ (is_tag t)
+    (YieldsList-at c.filter-tags.ensures.source
+    (YieldsList-from_skip 1
+    (YieldsList-at c.skip.ensures.source
+    (YieldsList-from_slice_split _ (λ x. eqb x 32) l c.split.ensures.rest c.split.ensures.done c.split.ensures.closure (λ x b q k. search (rules, tests)))) c.skip.ensures.count)) c.filter-tags.ensures.closure (λ x b q k. search (rules, tests)))
+    c.in_default.is c.next.ensures.steps)
 
-pub returns-then-next_tag-line : goal.returns-then-next_tag-line
-returns-then-next_tag-line c =
+pub returns-then-twice : goal.returns-then-twice
+returns-then-twice c =
+    let t = c.args.t in
     let l = c.args.line.now in
-    more-tagged l (c.next_tag-i.result + 1)
-    (sym (values-from-one c.args.t l c.requires) ∙ next l c.next_tag-i.ensures c.if-line-i.false)
-    c.end_of-to.ensures.value
-    c.end_of-to.ensures.upper_bound
-    (next l c.next_tag.ensures c.if-next_tag-line.true)
+    let two = two-more _ _ _
+    (YieldsList-from_filter _ (is_tag t)
+    (YieldsList-at c.filter-tags.ensures.source
+    (YieldsList-from_skip 1
+    (YieldsList-at c.skip.ensures.source
+    (YieldsList-from_slice_split _ (λ x. eqb x 32) l c.split.ensures.rest c.split.ensures.done c.split.ensures.closure (λ x b q k. search (rules, tests)))) c.skip.ensures.count)) c.filter-tags.ensures.closure (λ x b q k. search (rules, tests)))
+    c.in-Some.tag c.in-Some.is c.next.ensures.steps c.next-2.ensures.steps (sym c.if-twice.ensures) in
+    (tagged-twice t l two.2, refl)
 
 pub returns : goal.returns
 returns c =
+    let t = c.args.t in
     let l = c.args.line.now in
-    one-tagged l (c.next_tag-i.result + 1)
-    (sym (values-from-one c.args.t l c.requires) ∙ next l c.next_tag-i.ensures c.if-line-i.false)
-    c.end_of-to.ensures.value
-    c.end_of-to.ensures.upper_bound
-    (none l c.next_tag.ensures c.if-next_tag-line.false)
+    let one = one-only _ _ _
+    (YieldsList-from_filter _ (is_tag t)
+    (YieldsList-at c.filter-tags.ensures.source
+    (YieldsList-from_skip 1
+    (YieldsList-at c.skip.ensures.source
+    (YieldsList-from_slice_split _ (λ x. eqb x 32) l c.split.ensures.rest c.split.ensures.done c.split.ensures.closure (λ x b q k. search (rules, tests)))) c.skip.ensures.count)) c.filter-tags.ensures.closure (λ x b q k. search (rules, tests)))
+    c.in-Some.tag c.in-Some.is c.next.ensures.steps c.next-2.ensures.steps (sym c.if-twice.ensures) in
+    tagged-once t l one c.get.result c.get.ensures.lookup

@@ -1,8 +1,0 @@
-use Rattle.std.proofs.Common.{not, ◌&&◌, ◌||◌, ◌∙◌}
-use Rattle.motion.proofs.Differ.{by-list}
-use Rattle.motion.proofs.blocks.unlike.Goals as goal
-
-pub returns : goal.returns
-returns c =
-    (λ i. (c.is_used.ensures i || c.is_used-2.ensures i) && not (c.mate.ensures i))
-    ∙ by-list c.args.vertical c.args.a c.args.b

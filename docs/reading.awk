@@ -17,11 +17,10 @@ function module(path,    crate) {
     return "crates/" crate "/specs/" path ".antt"
 }
 
-# use PATH.{a, b}
-function take(line,    path, names, n, i, name) {
+# use PATH.{a, b as c}
+function take(line,    path, names, n, i, name, both) {
     path = line
     sub(/^(ghost )?use /, "", path)
-    if (path ~ /^Rattle\..* as /) alias[FILENAME] = 1
     if (path !~ /^Rattle\..*\.\{/) return
     names = path
     sub(/\.\{.*/, "", path)
@@ -29,6 +28,10 @@ function take(line,    path, names, n, i, name) {
     sub(/\}.*/, "", names)
     n = split(names, name, ", ")
     for (i = 1; i <= n; i++) {
+        if (split(name[i], both, " as ") == 2) {
+            name[i] = both[2]
+            true_name[FILENAME, name[i]] = both[1]
+        }
         from[FILENAME, name[i]] = module(path)
         uses[FILENAME, module(path)] = 1
     }
@@ -97,6 +100,7 @@ kind == "proof" { if (stating) refer(FILENAME SUBSEP "", $0); next }
 # ---- the closure, by a list of those to look at
 function reach(source, name,    target) {
     target = (source, name) in defined ? source : from[source, name]
+    if ((source, name) in true_name) name = true_name[source, name]
     if (target == "" || target SUBSEP name in reached) return
     reached[target SUBSEP name] = 1
     if (target ~ /^src /) {
@@ -164,7 +168,6 @@ END {
         apart = head[order[i]] ~ /^ Apart: /
         if (!wanted[order[i]] && !apart) fail(order[i] ": its first line does not say that it stands apart")
         if (wanted[order[i]] && apart) fail(order[i] ": says that it stands apart, but a promise rests on it")
-        if (wanted[order[i]] && alias[order[i]]) fail(order[i] ": names taken by `as` are not followed")
     }
     print "| `src/` | the structs and enums of the code that these speak of | " structs " | |"
     printf "| all | %d files | | %d |\n", files, total

@@ -1,8 +1,14 @@
 // What the pictures hold. U and V are filled differently, so that samples of one that end in the other show.
 ghost use Rattle.std.specs.Prelude.{◌<◌, ◌≤◌};
 
-use edges::{MbGrids, Offsets};
-use std::alloc::{AllocError, Global};
+use edges::{MbGrids, Offsets, Planes};
+use std::array;
+
+// The most macroblocks of a frame and of a picture that are replayed: what is held has the room for so many,
+// and calls are lent what fewer need of it.
+const MOST_OF_FRAME: usize = 8;
+
+const MOST_OF_PICTURE: usize = 4;
 
 // Flat macroblocks 100 103 above 105 104.
 fn flat(i: usize) -> u8 {
@@ -118,37 +124,31 @@ impl Content {
         }
     }
 
-    // The planes of n macroblocks.
-    pub fn frame(self, alloc: Global, n: usize) -> Result<Frame, AllocError>
-        requires { n ≤ 8 }
-    {
-        Ok(Frame {
-            luma: (0..256 * n)
-                .map(|i| self.sample(flat(i), LUMA.at(i)))
-                .collect(alloc)?,
-            u: (0..64 * n)
-                .map(|i| self.sample(128, U.at(i)))
-                .collect(alloc)?,
-            v: (0..64 * n)
-                .map(|i| self.sample(127, V.at(i)))
-                .collect(alloc)?,
-        })
+    // Planes are filled where they lie: a frame that is handed back takes its room more than once.
+    pub fn fill(self, planes: &mut Planes<'_>) {
+        let Planes { luma, u, v } = planes;
+        for (i, sample) in luma.iter_mut().enumerate() {
+            *sample = self.sample(flat(i), LUMA.at(i));
+        }
+        for (i, sample) in u.iter_mut().enumerate() {
+            *sample = self.sample(128, U.at(i));
+        }
+        for (i, sample) in v.iter_mut().enumerate() {
+            *sample = self.sample(127, V.at(i));
+        }
     }
 
-    // The grids of n macroblocks.
-    pub fn grids(self, alloc: Global, n: usize) -> Result<Grids, AllocError>
-        requires { n ≤ 4 }
-    {
+    pub fn grids(self) -> Grids {
         let (qps, t8s) = match self {
             Content::Flat => ([40, 40, 40, 40], [0, 0, 0, 0]),
             Content::Mixed => ([30, 36, 41, 45], [0, 1, 0, 1]),
             Content::Bottom => ([44, 33, 38, 35], [1, 0, 0, 1]),
         };
-        Ok(Grids {
-            strengths: (0..32 * n).map(|i| self.strength(i)).collect(alloc)?,
-            qps: Vec::from_slice(alloc, &qps[..n])?,
-            t8s: Vec::from_slice(alloc, &t8s[..n])?,
-        })
+        Grids {
+            strengths: array::from_fn(|i| self.strength(i)),
+            qps,
+            t8s,
+        }
     }
 
     pub fn offsets(self) -> Offsets {
@@ -175,31 +175,51 @@ impl Content {
     }
 }
 
-// A frame's planes. Kept: (4) beside the `Frame` of recordings: that one is read from a file, this one is
-// made and lent to be changed; what they share is three names.
+// A frame's planes, as long as the largest frame needs them. Kept: (4) beside the `Frame` of recordings: that
+// one is read from a file, this one is made and lent to be changed; what they share is three names.
 #[derive(Drop)]
 pub struct Frame {
-    pub luma: Vec<u8>,
-    pub u: Vec<u8>,
-    pub v: Vec<u8>,
+    luma: [u8; 256 * MOST_OF_FRAME],
+    u: [u8; 64 * MOST_OF_FRAME],
+    v: [u8; 64 * MOST_OF_FRAME],
 }
 
-// A picture's grids.
+impl Frame {
+    pub const BLANK: Frame = Frame {
+        luma: [0; 256 * MOST_OF_FRAME],
+        u: [0; 64 * MOST_OF_FRAME],
+        v: [0; 64 * MOST_OF_FRAME],
+    };
+
+    // Of n macroblocks, as calls are lent them.
+    pub fn planes(&mut self, n: usize) -> Planes<'_> {
+        let n = n.min(MOST_OF_FRAME);
+        let Frame { luma, u, v } = self;
+        Planes {
+            luma: &mut luma[..256 * n],
+            u: &mut u[..64 * n],
+            v: &mut v[..64 * n],
+        }
+    }
+}
+
+// A picture's grids, as long as the largest picture needs them.
 #[derive(Drop)]
 pub struct Grids {
-    pub strengths: Vec<u8>,
-    pub qps: Vec<u8>,
-    pub t8s: Vec<u8>,
+    strengths: [u8; 32 * MOST_OF_PICTURE],
+    qps: [u8; MOST_OF_PICTURE],
+    t8s: [u8; MOST_OF_PICTURE],
 }
 
 impl Grids {
-    // As calls are lent them. Kept: (4) beside `Loaded::lent` of recordings, which lends slices too; what they
-    // share is three names.
-    pub fn lent(&self) -> MbGrids<'_> {
+    // Of n macroblocks, as calls are lent them. Kept: (4) beside `Loaded::lent` of recordings, which lends
+    // slices too; what they share is three names.
+    pub fn lent(&self, n: usize) -> MbGrids<'_> {
+        let n = n.min(MOST_OF_PICTURE);
         MbGrids {
-            strengths: &self.strengths,
-            qps: &self.qps,
-            t8s: &self.t8s,
+            strengths: &self.strengths[..32 * n],
+            qps: &self.qps[..n],
+            t8s: &self.t8s[..n],
         }
     }
 }

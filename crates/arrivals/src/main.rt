@@ -11,22 +11,22 @@ mod contents;
 mod field_orders;
 mod print;
 
-use contents::Content;
-use edges::Planes;
+use contents::{Content, Frame};
 use pictures::Lent;
 use print::{answered, marks, sums};
 use sizes::{Part, Picture, Size};
 use slices::Slicing;
-use std::alloc::Global;
 use std::io;
 use visits::visits::replay;
+
+// The most visits of an order, for which answers have the room: `replay` refuses more with 4.
+const MOST_VISITS: usize = 8;
 
 // Visits of (xs[k], ys[k]) for each k in turn, of a picture that nothing was visited of. Kept: (1) `replay`,
 // which takes columns and rows as two lists; (4) the product of the sides, which is asked to be at most 4:
 // `Size::count` would ask that the size is good besides.
 fn run(
     rt: &impl Print,
-    alloc: Global,
     name: &str,
     size: Size,
     content: Content,
@@ -36,10 +36,14 @@ fn run(
     requires { size.w * size.h ≤ 4 }
 {
     let n = size.w * size.h;
-    let mut frame = content.frame(alloc, n)?;
-    let grids = content.grids(alloc, n)?;
-    let mut visited = vec![in alloc; 0u8; n]?;
-    let mut answers = vec![in alloc; Ok(()); xs.len()]?;
+    let mut frame = Frame::BLANK;
+    let mut planes = frame.planes(n);
+    content.fill(&mut planes);
+    let grids = content.grids();
+    let mut visited = [0; 4];
+    let visited = &mut visited[..n];
+    let mut answers = [Ok(()); MOST_VISITS];
+    let answers = &mut answers[..xs.len().min(MOST_VISITS)];
     let outcome = replay(
         Picture {
             size,
@@ -47,28 +51,24 @@ fn run(
         },
         xs,
         ys,
-        &mut Planes {
-            luma: &mut frame.luma,
-            u: &mut frame.u,
-            v: &mut frame.v,
-        },
+        &mut planes,
         &Lent {
             slicing: Slicing::Single(content.offsets()),
-            grids: grids.lent(),
+            grids: grids.lent(n),
         },
-        &mut visited,
-        &mut answers,
+        visited,
+        answers,
     );
-    answered(rt, name, outcome, &answers)?;
-    marks(rt, "marks", &visited)?;
-    let sample = frame.luma.get(495).copied().unwrap_or(0);
+    answered(rt, name, outcome, answers)?;
+    marks(rt, "marks", visited)?;
+    let sample = planes.luma.get(495).copied().unwrap_or(0);
     print!(rt; ", sample {sample}, sums")?;
-    sums(rt, &frame, Part::Frame)?;
+    sums(rt, &planes, Part::Frame)?;
     println!(rt;)
 }
 
 // .. in four orders.
-fn orders(rt: &impl Print, alloc: Global, content: Content) -> io::Result<()> {
+fn orders(rt: &impl Print, content: Content) -> io::Result<()> {
     let arrivals = [
         (
             "raster order, each twice:",
@@ -92,29 +92,20 @@ fn orders(rt: &impl Print, alloc: Global, content: Content) -> io::Result<()> {
         ),
     ];
     for (name, xs, ys) in arrivals {
-        run(rt, alloc, name, Size { w: 2, h: 2 }, content, &xs, &ys)?;
+        run(rt, name, Size { w: 2, h: 2 }, content, &xs, &ys)?;
     }
     Ok(())
 }
 
 fn main(rt: HostRuntime) -> io::Result<()> {
-    let alloc = rt.alloc();
     println!(rt; "flat")?;
-    orders(&rt, alloc, Content::Flat)?;
+    orders(&rt, Content::Flat)?;
     println!(rt; "mixed")?;
-    orders(&rt, alloc, Content::Mixed)?;
+    orders(&rt, Content::Mixed)?;
     println!(rt; "one wide")?;
     // P12's second half: in a picture one wide (0, 1) has no upper right neighbour to wait for.
     let tall = Size { w: 1, h: 2 };
-    run(
-        &rt,
-        alloc,
-        "downwards:",
-        tall,
-        Content::Mixed,
-        &[0, 0],
-        &[0, 1],
-    )?;
+    run(&rt, "downwards:", tall, Content::Mixed, &[0, 0], &[0, 1])?;
     println!(rt; "interlaced")?;
-    field_orders::orders(&rt, alloc)
+    field_orders::orders(&rt)
 }

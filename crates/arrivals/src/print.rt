@@ -3,7 +3,7 @@
 // marks.
 ghost use Rattle.std.specs.Prelude.{◌<◌};
 
-use crate::contents::Frame;
+use edges::Planes;
 use refusals::{Refusal, number};
 use sizes::Part;
 use std::io;
@@ -60,9 +60,9 @@ fn sum(plane: &[u8], width: usize, part: Part) -> u64
 }
 
 // Of planes two macroblocks wide; the sums of a frame are the same for any width.
-pub fn sums(rt: &impl Print, frame: &Frame, part: Part) -> io::Result<()> {
-    let luma = sum(&frame.luma, 32, part);
-    let u = sum(&frame.u, 16, part);
-    let v = sum(&frame.v, 16, part);
+pub fn sums(rt: &impl Print, planes: &Planes<'_>, part: Part) -> io::Result<()> {
+    let luma = sum(planes.luma, 32, part);
+    let u = sum(planes.u, 16, part);
+    let v = sum(planes.v, 16, part);
     print!(rt; " {luma} {u} {v}")
 }

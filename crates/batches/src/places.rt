@@ -14,7 +14,7 @@ pub struct Lines {
 
 impl Lines {
     // The lines n samples further across.
-    pub fn across(self, n: usize) -> Lines
+    pub fn ahead(self, n: usize) -> Lines
         requires { self.at + n * self.step < 18446744073709551616 }
         ensures { result ≡ record { at = self.at + n * self.step; along = self.along; step = self.step } }
     {

@@ -36,10 +36,10 @@ fn luma_way(plane: &mut [u8], on: WaySwitches, q: Lines, strengths: &[u8], by: W
         luma_edge(plane, q, &strengths[4..], by.inside);
     }
     if on.inner {
-        luma_edge(plane, q.across(4), &strengths[8..], by.inside);
+        luma_edge(plane, q.ahead(4), &strengths[8..], by.inside);
     }
     if odd {
-        luma_edge(plane, q.across(8), &strengths[12..], by.inside);
+        luma_edge(plane, q.ahead(8), &strengths[12..], by.inside);
     }
 }
 
@@ -69,7 +69,7 @@ fn chroma_way(
         chroma_edge(v, border, strengths, by.v.border);
     }
     if on.inner {
-        let inside = q.across(2);
+        let inside = q.ahead(2);
         chroma_edge(u, inside, &strengths[8..], by.u.inside);
         chroma_edge(v, inside, &strengths[8..], by.v.inside);
     }

@@ -113,7 +113,7 @@ fn levels_at(place: Place, qps: &[u8], o: Offsets) -> Levels
     requires x_lt_w { (place.x < place.w) × (place.y * place.w + place.w ≤ length qps.now) }
     ensures { result ≡ levels_of eight (pos (entries qps.now (place.y * place.w + place.x))) (pos (entries qps.now (before_of (ltb 0 place.x) (place.y * place.w + place.x) 1))) (pos (entries qps.now (before_of (ltb 0 place.y) (place.y * place.w + place.x) place.w))) o.a o.b o.chroma_u o.chroma_v }
 {
-    let i = place.index();
+    let i = place.address();
     let own = i16::from(qps[i]);
     let left = i16::from(qps[place.left().unwrap_or(i)]);
     let above = i16::from(qps[place.upper().unwrap_or(i)]);
@@ -166,7 +166,7 @@ pub fn plan_at(part: Part, place: Place, grids: &MbGrids<'_>, settings: Settings
     let l = layout_of(part);
     let luma = window_at(l, 16, place);
     let chroma = window_at(l, 8, place);
-    let t8 = flag_at(grids.t8s, place.index());
+    let t8 = flag_at(grids.t8s, place.address());
     let levels = levels_at(place, grids.qps, settings.offsets);
     let on = switches_at(settings.on, place, t8);
     Plan {

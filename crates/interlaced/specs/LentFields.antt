@@ -1,4 +1,5 @@
--- The fields that are lent, as the theory has them, and that they are still those that were lent.
+-- The fields that are lent, as the theory has them, and that they are still those that were lent, as long as
+-- before.
 use Rattle.std.specs.Prelude.{◌≡◌, length}
 use Rattle.edges.specs.LentPlanes.{samples, SamePlanes}
 use Rattle.slices.specs.LentSlicing.{slicing_of}
@@ -16,3 +17,5 @@ pub record SameBoth (u v : Interlaced) : Type 0 where
   pub frame : SamePlanes u.frame v.frame
   pub top : v.top.ghost_name ≡ u.top.ghost_name
   pub bottom : v.bottom.ghost_name ≡ u.bottom.ghost_name
+  pub top_length : length v.top.now ≡ length u.top.now
+  pub bottom_length : length v.bottom.now ≡ length u.bottom.now

@@ -2,6 +2,8 @@
 // planes are the frame's. Nothing is asked of the caller; a refusal changes no byte.
 ghost use Rattle.std.specs.Prelude.{◌≡◌, OnErr};
 ghost use Rattle.refusals.specs.Refusals.{number_of, answer_numbers};
+ghost use Rattle.slices.specs.Inner.{survey_of_slices};
+ghost use Rattle.slices.specs.LentSlicing.{slicing_of};
 ghost use Rattle.interlaced.specs.Inner.{OneVisit};
 ghost use Rattle.interlaced.specs.LentFields.{of_field_lent, interlaced_of, SameBoth};
 ghost use Rattle.interlaced.specs.Promise.{FieldsOutcome};
@@ -9,11 +11,13 @@ ghost use Rattle.interlaced.specs.Promise.{FieldsOutcome};
 use crate::{FieldsLent, Interlaced};
 use refusals::Refusal;
 use sizes::{Part, Picture, Size};
-use visits::visits::visit;
+use slices::Survey;
+use visits::surveyed::visit_surveyed;
 
-// Macroblock (x, y) of the field of a parity, filtered and marked, or a refusal. A parity that no field has
-// is refused before anything that is lent for a field is looked at. Kept: (1) the parity as a number, of
-// which calls answer 19 (`Part`), and x and y for a place: places outside the field are refused with 2.
+// Macroblock (x, y) of the field of a parity, filtered and marked, or a refusal; the slices of both fields
+// were surveyed. A parity that no field has is refused before anything that is lent for a field is looked at.
+// Kept: (1) the parity as a number, of which calls answer 19 (`Part`), and x and y for a place: places
+// outside the field are refused with 2.
 fn visit_field(
     size: Size,
     parity: u8,
@@ -21,7 +25,11 @@ fn visit_field(
     y: usize,
     both: &mut Interlaced<'_>,
     lent: &FieldsLent<'_>,
+    top_survey: Survey,
+    bottom_survey: Survey,
 ) -> Result<(), Refusal>
+    requires top { top_survey ≡ survey_of_slices (slicing_of lent.now.top.slicing) }
+    requires bottom { bottom_survey ≡ survey_of_slices (slicing_of lent.now.bottom.slicing) }
     ensures same { SameBoth both.old both.new }
     ensures outcome { OneVisit size (of_field_lent lent.now.top) (of_field_lent lent.now.bottom) (interlaced_of both.old) (parity, (x, y)) (number_of result) (interlaced_of both.new) }
 {
@@ -29,9 +37,25 @@ fn visit_field(
     let field = Picture { size, part };
     let top = parity == 0;
     if top {
-        return visit(field, x, y, &mut both.frame, &lent.top, both.top);
+        return visit_surveyed(
+            field,
+            x,
+            y,
+            &mut both.frame,
+            &lent.top,
+            both.top,
+            top_survey,
+        );
     }
-    visit(field, x, y, &mut both.frame, &lent.bottom, both.bottom)
+    visit_surveyed(
+        field,
+        x,
+        y,
+        &mut both.frame,
+        &lent.bottom,
+        both.bottom,
+        bottom_survey,
+    )
 }
 
 // Requests to both fields as they arrived, replayed: a visit of (xs[k], ys[k]) of the field of parity ps[k]
@@ -54,8 +78,10 @@ pub fn replay_fields(
     if (ps.len() != xs.len()) | (ys.len() != xs.len()) | (answers.len() != xs.len()) {
         return Err(Refusal::Grids);
     }
+    let top = lent.top.slicing.survey();
+    let bottom = lent.bottom.slicing.survey();
     for (k, x) in xs.iter().enumerate() {
-        answers[k] = visit_field(size, ps[k], *x, ys[k], both, lent);
+        answers[k] = visit_field(size, ps[k], *x, ys[k], both, lent, top, bottom);
     }
     Ok(())
 }

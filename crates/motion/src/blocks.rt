@@ -58,14 +58,14 @@ impl Motion {
 
 impl Blk {
     // Whether the motion differs: it does list by list, and with the lists crossed. So the used references
-    // need not be counted. Where the lists agree in order, nothing more is asked.
+    // need not be counted. Both are computed: a branch by the first would often be mistaken.
     pub fn differs(self, vertical: u8, q: Blk) -> bool
         ensures { result ≡ differ vertical self q }
     {
         let unlike_in_order = self.list0.is_unlike(vertical, q.list0)
             | self.list1.is_unlike(vertical, q.list1);
         unlike_in_order
-            && (self.list0.is_unlike(vertical, q.list1) | self.list1.is_unlike(vertical, q.list0))
+            & (self.list0.is_unlike(vertical, q.list1) | self.list1.is_unlike(vertical, q.list0))
     }
 
     // The same motion in both lists, unused vectors included.

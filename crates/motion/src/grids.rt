@@ -50,6 +50,15 @@ fn named_by(pictures: &[i32], r: i32) -> i32
     picture_in(pictures, r)
 }
 
+// .. where there is one.
+#[tactic(auto, using(crate::proofs::Pictures::by_entry))]
+fn named_in(pictures: &[i32], r: i32) -> i32
+    requires { 0 < length pictures.now }
+    ensures { result ≡ named_by pictures.now r }
+{
+    picture_in(pictures, r)
+}
+
 impl ReferenceList<'_> {
     // What it holds of block i, by the number that is stored.
     pub fn stored(&self, i: usize) -> Motion
@@ -63,7 +72,20 @@ impl ReferenceList<'_> {
         }
     }
 
-    // .. by the picture that the table names.
+    // .. by the picture that the table names. Neither list nor table is empty.
+    fn named(&self, i: usize) -> Motion
+        requires held { (i < length self.now.references.now) × (2 * i + 2 ≤ length self.now.vectors.now) }
+        requires table { 0 < length self.now.pictures.now }
+        ensures { result ≡ list_motion self.now i }
+    {
+        let stored = self.stored(i);
+        Motion {
+            reference: named_in(self.pictures, stored.reference),
+            ..stored
+        }
+    }
+
+    // .. of any list.
     fn motion(&self, i: usize) -> Motion
         requires { HoldsOrEmpty self.now (i + 1) }
         ensures { result ≡ list_motion self.now i }
@@ -90,7 +112,36 @@ impl ReferenceList<'_> {
 }
 
 impl Grids<'_> {
-    // Block i.
+    // Block i of two lists without tables,
+    pub fn stored_block(&self, i: usize) -> Blk
+        requires held { HoldBlocks (grids_of self.now) (i + 1) }
+        requires second { 0 < length self.now.list1.references.now }
+        requires no_tables { (length self.now.list0.pictures.now ≡ 0) × (length self.now.list1.pictures.now ≡ 0) }
+        ensures { result ≡ blk_at (grids_of self.now) i }
+    {
+        Blk {
+            inter: self.inter[i] == 1,
+            list0: self.list0.stored(i),
+            list1: self.list1.stored(i),
+        }
+    }
+
+    // .. of two lists with tables,
+    #[tactic(auto, unfolding(crate::specs::Grids::block_read))]
+    pub fn named_block(&self, i: usize) -> Blk
+        requires held { HoldBlocks (grids_of self.now) (i + 1) }
+        requires second { 0 < length self.now.list1.references.now }
+        requires tables { (0 < length self.now.list0.pictures.now) × (0 < length self.now.list1.pictures.now) }
+        ensures { result ≡ blk_at (grids_of self.now) i }
+    {
+        Blk {
+            inter: self.inter[i] == 1,
+            list0: self.list0.named(i),
+            list1: self.list1.named(i),
+        }
+    }
+
+    // .. of any. It asks for each list whether it and its table are empty, which the two above need not.
     #[tactic(auto, unfolding(crate::specs::Grids::block_read))]
     pub fn block(&self, i: usize) -> Blk
         requires { HoldBlocks (grids_of self.now) (i + 1) }

@@ -8,7 +8,7 @@ ghost use Rattle.laws.specs.Refusal.{refusal};
 ghost use Rattle.refusals.specs.Refusals.{number_of};
 ghost use Rattle.sizes.specs.Sizes.{frame_of_part};
 ghost use Rattle.slices.specs.LentSlicing.{slicing_of};
-ghost use Rattle.slices.specs.Slicing.{bad_number_count, bad_slice_offset};
+ghost use Rattle.slices.specs.Slicing.{bad_number_count};
 ghost use Rattle.pictures.specs.Checks.{bad_lent, some_bad_flag, some_bad_strength, picture_checks, grid_checks};
 
 use crate::Lent;
@@ -61,15 +61,16 @@ impl Lent<'_> {
             | bad_flag_count(n, grids.t8s.len())
     }
 
-    // Checks 4 to 6, of n macroblocks. `other`: a grid that the call alone is lent has the wrong length.
-    pub fn check_grids(&self, n: usize, other: bool) -> Result<(), Refusal>
+    // Checks 4 to 6, of n macroblocks. `other`: a grid that the call alone is lent has the wrong length;
+    // `six`: check 6 applies, of which a call that looks at the same slices often has asked once.
+    pub fn check_grids(&self, n: usize, other: bool, six: bool) -> Result<(), Refusal>
         requires { n ≤ 36864 }
-        ensures { number_of result ≡ refusal (grid_checks n (length self.now.grids.strengths.now) (length self.now.grids.qps.now) (length self.now.grids.t8s.now) (bad_number_count (slicing_of self.now.slicing) n || other) (bad_slice_offset (slicing_of self.now.slicing))) }
+        ensures { number_of result ≡ refusal (grid_checks n (length self.now.grids.strengths.now) (length self.now.grids.qps.now) (length self.now.grids.t8s.now) (bad_number_count (slicing_of self.now.slicing) n || other) six) }
     {
         if self.has_bad_lengths(n) | self.slicing.has_bad_count(n) | other {
             return Err(Refusal::Grids);
         }
-        if self.slicing.has_bad_offset() {
+        if six {
             return Err(Refusal::Offset);
         }
         Ok(())

@@ -17,7 +17,46 @@ use edges::picture::filter_edges;
 use sizes::places::Place;
 use sizes::{Part, Picture};
 
-// A macroblock. Where all its strengths are 0 nothing is to do.
+// A macroblock of any strengths.
+fn filter_busy(part: Part, place: Place, planes: &mut Planes<'_>, lent: &Lent<'_>)
+    requires place { (bad_parity part ≡ false) × (place.x < place.w) × (place.y * place.w + place.w ≤ 36864) }
+    requires planes { PlanesHold (frame_of_part part (place.y * place.w + place.w)) (samples planes.old) }
+    requires grids { GridsHold (place.y * place.w + place.w) (given_wide place.w lent.now) }
+    ensures same { SamePlanes planes.old planes.new }
+    ensures is { samples planes.new ≡ laid_mb (held_of (given_wide place.w lent.now)) (layout_of part) place.x place.y (samples planes.old) }
+{
+    let settings = lent.slicing.settings_at(place);
+    filter_edges(planes, part, place, &lent.grids, settings);
+}
+
+// A macroblock, and the strengths that are lent, which a row takes once: each macroblock would load anew
+// where they begin. Where all of its own are 0 nothing is to do, and since this is inlined no call is made: a
+// whole picture without edges took more than twice as long with one. The place is made anew for the call, so
+// that an idle macroblock stores none.
+#[inline(always)]
+fn filter_unless_idle(
+    part: Part,
+    place: Place,
+    planes: &mut Planes<'_>,
+    lent: &Lent<'_>,
+    strengths: &[u8],
+)
+    requires place { (bad_parity part ≡ false) × (place.x < place.w) × (place.y * place.w + place.w ≤ 36864) }
+    requires planes { PlanesHold (frame_of_part part (place.y * place.w + place.w)) (samples planes.old) }
+    requires grids { GridsHold (place.y * place.w + place.w) (given_wide place.w lent.now) }
+    requires strengths { strengths.now ≡ lent.now.grids.strengths.now }
+    ensures same { SamePlanes planes.old planes.new }
+    ensures is { samples planes.new ≡ laid_mb (held_of (given_wide place.w lent.now)) (layout_of part) place.x place.y (samples planes.old) }
+{
+    if all_zero(strengths, 32 * place.address()) {
+        return;
+    }
+    let Place { w, x, y } = place;
+    filter_busy(part, Place { w, x, y }, planes, lent);
+}
+
+// A macroblock by itself.
+#[inline(always)]
 pub fn filter_macroblock(part: Part, place: Place, planes: &mut Planes<'_>, lent: &Lent<'_>)
     requires place { (bad_parity part ≡ false) × (place.x < place.w) × (place.y * place.w + place.w ≤ 36864) }
     requires planes { PlanesHold (frame_of_part part (place.y * place.w + place.w)) (samples planes.old) }
@@ -25,11 +64,7 @@ pub fn filter_macroblock(part: Part, place: Place, planes: &mut Planes<'_>, lent
     ensures same { SamePlanes planes.old planes.new }
     ensures is { samples planes.new ≡ laid_mb (held_of (given_wide place.w lent.now)) (layout_of part) place.x place.y (samples planes.old) }
 {
-    if all_zero(lent.grids.strengths, 32 * place.index()) {
-        return;
-    }
-    let settings = lent.slicing.settings_at(place);
-    filter_edges(planes, part, place, &lent.grids, settings);
+    filter_unless_idle(part, place, planes, lent, lent.grids.strengths);
 }
 
 // Row y from left to right. Kept: (4) x is a macroblock's column, by which no slice is indexed.
@@ -42,7 +77,8 @@ pub fn filter_row(picture: Picture, y: usize, planes: &mut Planes<'_>, lent: &Le
     ensures is { samples planes.new ≡ laid_row (held_of (given picture.size lent.now)) (layout_of picture.part) y (samples planes.old) }
 {
     let w = picture.size.w;
+    let strengths = lent.grids.strengths;
     for x in 0..w {
-        filter_macroblock(picture.part, Place { w, x, y }, planes, lent);
+        filter_unless_idle(picture.part, Place { w, x, y }, planes, lent, strengths);
     }
 }

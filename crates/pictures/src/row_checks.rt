@@ -92,6 +92,6 @@ pub fn check_rows(
 {
     let size = picture.size;
     check_picture(picture, (b < a) | (size.h < b), planes)?;
-    lent.check_grids(size.count(), false)?;
+    lent.check_grids(size.count(), false, lent.slicing.has_bad_offset())?;
     check_row_entries(size, a, b, lent)
 }

@@ -1,4 +1,5 @@
 pub mod Derived
+pub mod Numbers
 pub mod Refused
 pub mod Slices
 pub mod Turns

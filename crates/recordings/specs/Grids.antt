@@ -1,6 +1,6 @@
 -- Apart: no promise to a caller rests on it, but what this program says of itself. The strengths of a
 -- picture, derived macroblock by macroblock from grids g: of a field where `field` is true, else of a frame.
-use Rattle.std.specs.Prelude.{ℕ, ◌+◌, ◌*◌, ◌≤◌, ◌<◌, ◌≡◌, Bool, true, false, cond, List, eqb, ℤ, length}
+use Rattle.std.specs.Prelude.{ℕ, ◌+◌, ◌*◌, ◌≤◌, ◌<◌, ◌≡◌, Bool, false, cond, List, eqb, ℤ, length}
 use Rattle.laws.specs.Loop.{up_to}
 use Rattle.laws.specs.Some.{every}
 use Rattle.sizes.specs.declared.Size.{Size}

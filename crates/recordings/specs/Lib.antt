@@ -1,8 +1,10 @@
 pub mod Bytes
 pub mod Grids
 pub mod Held
+pub mod Numbers
 pub mod Orders
 pub mod Places
+pub mod Read
 pub mod Slices
 pub mod Ways
 pub mod Tried

@@ -1,16 +1,19 @@
 // The grids of a recording, and the strengths that are derived from them. No contract can say what a file
 // holds, so `strengths_of` says of some grids, with the tables that are lent, that the strengths are theirs
 // (`FromFile`); that they are the ones that were read is plain from its text alone.
-ghost use Rattle.std.specs.Prelude.{◌≡◌, IsErr, MatchResult, ◌≤◌, ◌<◌, length};
+ghost use Rattle.std.specs.Prelude.{◌≡◌, IfOk, IsErr, MatchResult, ◌≤◌, ◌<◌, length, map};
 ghost use Rattle.laws.specs.Some.{every};
 ghost use Rattle.motion.specs.Lent.{grids_of};
 ghost use Rattle.recordings.specs.Grids.{served_at, derived_to, FromFile};
+ghost use Rattle.recordings.specs.Numbers.{signed_number};
+ghost use Rattle.recordings.specs.Read.{ReferencesRead};
+ghost use Rattle.recordings.specs.Slices.{signed_of};
 
-use crate::load::{Head, bytes, numbers};
+use crate::load::{Head, bytes, numbers, refused};
 use crate::places::{column, row};
-use anyhow::bail;
 use motion::grids::{Grids, ReferenceList};
 use std::alloc::Global;
+use std::io;
 use std::io::Read;
 use strengths::Source;
 use strengths::calls::derive_mb;
@@ -23,16 +26,45 @@ struct References {
 }
 
 impl References {
-    fn read(file: &mut impl Read, alloc: Global, n: usize) -> anyhow::Result<References>
+    fn read<R: Read>(file: &mut R, alloc: Global, n: usize) -> io::Result<References>
         requires { n ≤ 1920 }
+        ensures { IfOk result (λ r. ReferencesRead (R.remaining file.old) (R.remaining file.new) r) }
     {
-        let references = bytes(file, alloc, n)?;
-        let vectors = numbers(file, alloc, 2 * n)?;
+        let raw = bytes(file, alloc, n)?;
+        let numbers = numbers(file, alloc, 2 * n)?;
+        let references = references_of(alloc, &raw)?;
+        let vectors = vectors_of(alloc, &numbers)?;
         Ok(References {
-            references: references.iter().map(|b| b.cast_signed()).collect(alloc)?,
-            vectors: vectors.iter().map(|b| b.cast_signed()).collect(alloc)?,
+            references,
+            vectors,
         })
     }
+}
+
+// A byte that stands for -128 to 127.
+fn signed(byte: &u8) -> i8
+    ensures { result ≡ signed_of byte.now }
+{
+    byte.cast_signed()
+}
+
+// A number that stands for -32768 to 32767.
+fn signed_number(number: &u16) -> i16
+    ensures { result ≡ signed_number number.now }
+{
+    number.cast_signed()
+}
+
+fn references_of(alloc: Global, raw: &[u8]) -> io::Result<Vec<i8>>
+    ensures { IfOk result (λ v. v.items ≡ map signed_of raw.now) }
+{
+    Ok(raw.iter().map(signed).collect(alloc)?)
+}
+
+fn vectors_of(alloc: Global, numbers: &[u16]) -> io::Result<Vec<i16>>
+    ensures { IfOk result (λ v. v.items ≡ map signed_number numbers.now) }
+{
+    Ok(numbers.iter().map(signed_number).collect(alloc)?)
 }
 
 // The strengths of the first n macroblocks, and whether no call was refused. Kept: (4) by index, as
@@ -61,13 +93,13 @@ pub fn strengths_of<'a>(
     pictures1: &'a [i32],
     t8s: &'a [u8],
     strengths: &mut [u8],
-) -> anyhow::Result<bool>
+) -> io::Result<bool>
     ensures too_large { 120 < head.now.n → IsErr result }
     ensures derived { MatchResult result (λ r. FromFile head.now.size head.now.two pictures0.now pictures1.now t8s.now head.now.n strengths.old r strengths.new) (λ e. strengths.new ≡ strengths.old) }
 {
     let n = head.n;
     if 120 < n {
-        bail!("a picture of {n} macroblocks");
+        return Err(refused("a picture is too large"));
     }
     let inter = bytes(file, alloc, 16 * n)?;
     let nnz = bytes(file, alloc, 16 * n)?;

@@ -17,11 +17,11 @@ mod space;
 mod ways;
 
 use both::Recorded;
-use load::{Frame, Head, Loaded};
+use load::{Frame, Head, Held, Loaded};
 use sizes::Size;
 use slices::ChromaOffsets;
 use std::alloc::Global;
-use std::io::Read;
+use std::io::{ErrorKind, Read};
 use std::rt::Files;
 use std::{env, fs, io};
 use trials::{Verdict, read_full};
@@ -31,20 +31,20 @@ use trials::{Verdict, read_full};
 struct Parts {
     before: Frame,
     after: Frame,
-    first: Loaded,
-    second: Option<Loaded>,
+    first: Held,
+    second: Option<Held>,
 }
 
 impl Parts {
-    fn read(file: &mut impl Read, alloc: Global, head: &Head) -> anyhow::Result<Parts>
+    fn read(file: &mut impl Read, alloc: Global, head: &Head) -> io::Result<Parts>
         requires { head.now.n ≤ most_of head.now.two }
     {
         let macroblocks = both::frames(head.two, head.n);
         let before = Frame::read(file, alloc, macroblocks)?;
         let after = Frame::read(file, alloc, macroblocks)?;
-        let first = Loaded::read(file, alloc, head)?;
+        let first = Held::read(file, alloc, head)?;
         let second = if head.two {
-            Some(Loaded::read(file, alloc, head)?)
+            Some(Held::read(file, alloc, head)?)
         } else {
             None
         };
@@ -55,29 +55,30 @@ impl Parts {
             second,
         })
     }
+}
 
-    // Whether the strengths of all pictures are those that were derived; nothing where they are free of
-    // grids.
-    fn same_strengths(&self) -> Option<bool> {
-        match &self.second {
-            Some(second) => Some(self.first.same? && second.same?),
-            None => self.first.same,
-        }
+// Whether the strengths of all pictures are those that were derived; nothing where they are free of grids.
+fn same_strengths(first: Loaded<'_>, second: Option<Loaded<'_>>) -> Option<bool> {
+    match second {
+        Some(second) => Some(first.same? && second.same?),
+        None => first.same,
     }
 }
 
 // What became of a recording. What is printed as equal is equal: the contracts of `check::same` and
 // `orders::all` say so.
 fn report(rt: &impl Print, head: &Head, parts: &Parts) -> io::Result<()> {
-    match parts.same_strengths() {
+    let first = parts.first.loaded();
+    let second = parts.second.as_ref().map(|picture| picture.loaded());
+    match same_strengths(first, second) {
         Some(same) => print!(rt; ", strengths {}", Verdict(same))?,
         None => print!(rt; ", strengths as they are")?,
     }
     let recorded = Recorded {
         size: head.size,
         n: head.n,
-        first: parts.first.lent(),
-        second: parts.second.as_ref().map(|picture| picture.lent()),
+        first: first.lent,
+        second: second.map(|picture| picture.lent),
     };
     let came = orders::all(&recorded, parts.before.shown(), parts.after.shown());
     let name = if head.two { "pictures" } else { "picture" };
@@ -87,15 +88,20 @@ fn report(rt: &impl Print, head: &Head, parts: &Parts) -> io::Result<()> {
     println!(rt; ", by leaps {}", Verdict(came.leaps))
 }
 
-// Reads the parts after the header, and answers whether another recording may follow.
+// Reads the parts after the header, and answers whether another recording may follow. Memory that ran out is
+// no word about the file: it ends the program.
 fn replay(rt: &impl Print, alloc: Global, file: &mut impl Read, head: &Head) -> io::Result<bool> {
     if both::most(head.two) < head.n {
         println!(rt; " is too large")?;
         return Ok(false);
     }
-    let Ok(parts) = Parts::read(file, alloc, head) else {
-        println!(rt; " cannot be read")?;
-        return Ok(false);
+    let parts = match Parts::read(file, alloc, head) {
+        Ok(parts) => parts,
+        Err(e) if e.kind() == ErrorKind::OutOfMemory => return Err(e),
+        Err(_) => {
+            println!(rt; " cannot be read")?;
+            return Ok(false);
+        }
     };
     report(rt, head, &parts)?;
     Ok(true)

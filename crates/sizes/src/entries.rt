@@ -54,7 +54,7 @@ pub fn bad_near<T: Copy, F: Fn(T) -> bool>(xs: &[T], place: Place, bad: &F) -> b
     requires place { InPicture place.w place.x place.y (length xs.now) }
     ensures { (p : T → Bool) (none : T) → Tells (F.post bad.now) p → result ≡ is_near p none xs.now place.w place.x place.y }
 {
-    let own = bad(xs[place.index()]);
+    let own = bad(xs[place.address()]);
     let left = bad_before(xs, place.left(), bad);
     let upper = bad_before(xs, place.upper(), bad);
     own | left | upper

@@ -13,8 +13,8 @@ pub struct Place {
 }
 
 impl Place {
-    // Its number in raster order, by which grids have its entry.
-    pub fn index(self) -> usize
+    // Its number in raster order, the address, by which grids have its entry.
+    pub fn address(self) -> usize
         requires { self.y * self.w + self.x < 18446744073709551616 }
         ensures { result ≡ self.y * self.w + self.x }
     {
@@ -26,7 +26,7 @@ impl Place {
         requires { self.y * self.w + self.x < 18446744073709551616 }
         ensures { result ≡ neighbour (ltb 0 self.x) (self.y * self.w + self.x) 1 }
     {
-        (0 < self.x).then(|| self.index() - 1)
+        (0 < self.x).then(|| self.address() - 1)
     }
 
     // .. above,
@@ -34,7 +34,7 @@ impl Place {
         requires { self.y * self.w + self.x < 18446744073709551616 }
         ensures { result ≡ neighbour (ltb 0 self.y) (self.y * self.w + self.x) self.w }
     {
-        (0 < self.y).then(|| self.index() - self.w)
+        (0 < self.y).then(|| self.address() - self.w)
     }
 
     // .. above and to the right.
@@ -43,6 +43,6 @@ impl Place {
         requires small { self.y * self.w + self.x < 18446744073709551616 }
         ensures { result ≡ neighbour (ltb 0 self.y && ltb (self.x + 1) self.w) (self.y * self.w + self.x) (self.w - 1) }
     {
-        ((0 < self.y) & (self.x + 1 < self.w)).then(|| self.index() - (self.w - 1))
+        ((0 < self.y) & (self.x + 1 < self.w)).then(|| self.address() - (self.w - 1))
     }
 }

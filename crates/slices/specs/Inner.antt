@@ -4,14 +4,19 @@ use Rattle.std.specs.Prelude.{ℕ, ◌+◌, ◌-◌, ◌*◌, ◌≤◌, ◌≡�
 use Rattle.edges.specs.Picture.{entries}
 use Rattle.edges.specs.declared.EdgesOn.{EdgesOn}
 use Rattle.edges.specs.declared.Offsets.{Offsets}
-use Rattle.slices.specs.Slicing.{Slicing, single, sliced, offset_a, offset_b, chroma_offsets, filters, filters_edge, filters_inside, filters_toward}
+use Rattle.slices.specs.Slicing.{Slicing, single, sliced, offset_a, offset_b, chroma_offsets, filters, filters_edge, filters_inside, filters_toward, bad_slice_offset, bad_slice_mode}
 use Rattle.slices.specs.declared.ChromaOffsets.{ChromaOffsets}
 use Rattle.slices.specs.declared.SliceRecord.{SliceRecord}
+use Rattle.slices.specs.declared.Survey.{Survey}
 
 -- the first n macroblocks have numbers, where numbers are lent
 abbrev pub NumbersHold : ℕ → Slicing → Type 0
 NumbersHold n (single o) = Unit {0}
 NumbersHold n (sliced c t ns) = n ≤ length ns
+
+-- what slices come to: 6 and 21 of them
+abbrev pub survey_of_slices : Slicing → Survey
+survey_of_slices sl = record { bad_offset = bad_slice_offset sl; bad_mode = bad_slice_mode sl }
 
 -- ---- a macroblock's own settings, by value
 abbrev pub offsets_with : SliceRecord → ChromaOffsets → Offsets

@@ -37,3 +37,11 @@ pub enum Slicing<'a> {
         numbers: &'a [u16],
     },
 }
+
+// What the slices come to: whether an offset is out of range (6), and whether a record has an unknown mode
+// (21). It is asked once where a call looks at the same slices often.
+#[derive(Clone, Copy, Debug, PartialEq, Eq)]
+pub struct Survey {
+    pub bad_offset: bool,
+    pub bad_mode: bool,
+}

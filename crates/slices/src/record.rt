@@ -93,7 +93,7 @@ impl SliceRecord {
         requires { InPicture place.w place.x place.y (length numbers.now) }
         ensures { result ≡ edges_by self numbers.now place.w place.x place.y }
     {
-        let i = place.index();
+        let i = place.address();
         let left = self.filters_toward(numbers, i, place.left());
         let top = self.filters_toward(numbers, i, place.upper());
         let inner = self.filters_inside();

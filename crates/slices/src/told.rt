@@ -3,21 +3,21 @@
 ghost use Rattle.std.specs.Prelude.{◌≡◌, ◌+◌, ◌*◌, ◌<◌, length};
 ghost use Rattle.edges.specs.Alike.{every_edge};
 ghost use Rattle.edges.specs.Picture.{entries};
-ghost use Rattle.slices.specs.Inner.{OwnSettings, NumbersHold};
+ghost use Rattle.slices.specs.Inner.{OwnSettings, NumbersHold, survey_of_slices};
 ghost use Rattle.slices.specs.LentSlicing.{slicing_of};
 ghost use Rattle.slices.specs.Slicing.{bad_number_count, bad_slice_offset, bad_slice_mode};
 ghost use Rattle.slices.specs.Table.{record_of, some_bad_pair, some_bad_mode};
 ghost use Rattle.sizes.specs.Inner.{InPicture};
 
 use crate::record::bad_offsets;
-use crate::{SliceRecord, Slicing};
+use crate::{SliceRecord, Slicing, Survey};
 use edges::Settings;
 use edges::picture::every_edge;
 use sizes::entries::any_bad;
 use sizes::places::Place;
 
-// The record of number i, whatever the number is.
-fn record_of(records: &[SliceRecord], i: usize) -> SliceRecord
+// The record of number i, whatever the number is: past the table `SliceRecord::NONE`.
+pub fn record_of(records: &[SliceRecord], i: usize) -> SliceRecord
     ensures { result ≡ record_of records.now i }
 {
     records.get(i).copied().unwrap_or(SliceRecord::NONE)
@@ -72,6 +72,16 @@ impl Slicing<'_> {
         }
     }
 
+    // Checks 6 and 21, for a caller who asks them often of the same slices: they look at every record.
+    pub fn survey(&self) -> Survey
+        ensures { result ≡ survey_of_slices (slicing_of self.now) }
+    {
+        Survey {
+            bad_offset: self.has_bad_offset(),
+            bad_mode: self.has_bad_mode(),
+        }
+    }
+
     // What a macroblock is filtered with.
     pub fn settings_at(&self, place: Place) -> Settings
         requires { InPicture place.w place.x place.y 36864 × NumbersHold (place.y * place.w + place.x + 1) (slicing_of self.now) }
@@ -87,7 +97,7 @@ impl Slicing<'_> {
                 records,
                 numbers,
             } => {
-                let r = record_of(records, usize::from(numbers[place.index()]));
+                let r = record_of(records, usize::from(numbers[place.address()]));
                 Settings {
                     offsets: r.offsets_with(*chroma),
                     on: r.edges_on(numbers, place),

@@ -4,15 +4,16 @@
 use Rattle.std.specs.Prelude.{ℕ, ◌+◌, ◌*◌, ◌<◌, ◌≡◌, Bool, false, cond, List, eqb, ltb, ℤ, length, set, Option, None, Some, Result, Ok, Err}
 use Rattle.laws.specs.Loop.{up_to, span}
 use Rattle.laws.specs.Refusal.{or_else}
+use Rattle.laws.specs.Some.{every}
 use Rattle.motion.specs.Grids.{Grids, ref_at, vector_at}
 use Rattle.motion.specs.Inner.{HoldBlocks}
 use Rattle.motion.specs.Motion.{equal_motion}
 use Rattle.motion.specs.declared.blocks.Motion.{Motion}
 use Rattle.sizes.specs.Entries.{flag_at}
 use Rattle.sizes.specs.declared.Size.{Size}
-use Rattle.strengths.specs.Blocks.{origin, own_block}
+use Rattle.strengths.specs.Blocks.{own_block}
 use Rattle.strengths.specs.Calls.{answer_at}
-use Rattle.strengths.specs.Kinds.{every_own, kind_number}
+use Rattle.strengths.specs.Kinds.{kind_number}
 use Rattle.strengths.specs.Strength.{mode_of, strength_at, written}
 use Rattle.strengths.specs.declared.kinds.Known.{Known}
 use Rattle.strengths.specs.declared.kinds.MbKind.{MbKind}
@@ -41,9 +42,10 @@ filled n first f s = up_to n (λ k t. set t (first + k) (f k)) s
 abbrev pub stored_motion : List ℤ → List ℤ → ℕ → Motion
 stored_motion refs mvs i = vector_at (ref_at refs i) mvs i
 
--- they are one for the own blocks
-unfoldable pub one_stored : List ℤ → List ℤ → ℕ → ℕ → ℕ → Bool
-one_stored refs mvs w x y = every_own w x y (λ i. equal_motion (stored_motion refs mvs i) (stored_motion refs mvs (origin w x y)))
+-- they are one for the 4 by 4 blocks from `at` on
+unfoldable pub one_stored : List ℤ → List ℤ → ℕ → ℕ → Bool
+one_stored refs mvs at stride =
+    every 4 (λ j. every 4 (λ k. equal_motion (stored_motion refs mvs (at + j * stride + k)) (stored_motion refs mvs at)))
 
 -- ---- the macroblocks of row y from a up to b: the first refusal, what is written, and both as one outcome
 unfoldable pub stretch_answer : Size → ℕ → ℕ → ℕ → Known → List ℕ → List ℕ → Grids → ℕ → ℕ

@@ -116,10 +116,14 @@ fn disagreeing(inter: &[u8], blocks: Blocks) -> bool
 {
     let at = blocks.origin();
     let stride = blocks.stride();
-    let own = some_own(blocks, &|i: usize| inter[i] != inter[at]);
-    let left = some_beside(blocks.left(), &|i: usize| inter[i] != inter[at - 1], stride);
+    let own = some_own(blocks.own(), &|i: usize| inter[i] != inter[at]);
+    let left = some_beside(
+        blocks.left_block(),
+        &|i: usize| inter[i] != inter[at - 1],
+        stride,
+    );
     let above = some_beside(
-        blocks.above(),
+        blocks.above_block(),
         &|i: usize| inter[i] != inter[at - stride],
         1,
     );

@@ -104,7 +104,7 @@ pub fn derive(
     requires room { 32 * (blocks.place.y * blocks.place.w + blocks.place.x) + 32 ≤ length strengths.old }
     ensures { strengths.new ≡ written (blocks.place.y * blocks.place.w + blocks.place.x) (strength_by kind mode (grids_of g.now) blocks.place.w t blocks.place.x blocks.place.y) strengths.old }
 {
-    let to = 32 * blocks.place.index();
+    let to = 32 * blocks.place.address();
     if kind.is_intra() {
         return derive_intra(mode, t.own, blocks.place.x, blocks.place.y, strengths, to);
     }

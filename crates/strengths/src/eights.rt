@@ -37,7 +37,7 @@ impl Transforms {
         ensures { result ≡ transforms_of (flag_at t8s.now) place.w place.x place.y }
     {
         Transforms {
-            own: flag_at(t8s, place.index()),
+            own: flag_at(t8s, place.address()),
             left: flag_beside(t8s, place.left()),
             above: flag_beside(t8s, place.upper()),
         }

@@ -5,11 +5,12 @@
 // below 4 is a fact of one number, which `fill_four` asks of no caller: its closures are told it, and a type
 // for it would be made for each segment. (1) an edge by its first byte k, its direction as `down` and an odd
 // row as the number 1: `edge_at`, `q_block` and `coded_by` of specs/ have them so.
-ghost use Rattle.std.specs.Prelude.{◌≡◌, ℕ, cond, ◌+◌, ◌*◌, ◌%◌, ◌<◌, ◌≤◌, length};
+ghost use Rattle.std.specs.Prelude.{◌≡◌, ℕ, cond, ◌||◌, ◌+◌, ◌*◌, ◌%◌, ◌<◌, ◌≤◌, length};
 ghost use Rattle.motion.specs.Lent.{grids_of};
 ghost use Rattle.strengths.specs.Blocks.{own_block};
 ghost use Rattle.strengths.specs.ByKind.{either_coded};
 ghost use Rattle.strengths.specs.Edges.{edge_at, IsEdge, moving_by, lone_by};
+ghost use Rattle.strengths.specs.Eights.{across_flag};
 ghost use Rattle.strengths.specs.Inner.{InGrids, GridsReach, filled};
 ghost use Rattle.strengths.specs.Strength.{p_block, q_block};
 
@@ -83,6 +84,13 @@ impl MbEdge {
         self.way.q + s * self.way.along - self.way.back
     }
 
+    // Whether a macroblock beside the edge has an 8x8 transform.
+    fn has_eights(self) -> bool
+        ensures { result ≡ (across_flag self.t self.k || self.t.own) }
+    {
+        self.t.across(self.k) | self.t.own
+    }
+
     // A block beside a segment has coefficients. Where neither macroblock is 8x8 their own counts tell. Of a
     // row it matters whether it is odd, and one up from a row is as one down.
     fn is_coded(self, nnz: &[u8], s: usize) -> bool
@@ -123,7 +131,49 @@ impl MbEdge {
         list.bs_lone(limit, self.is_coded(nnz, s), self.p(s), self.q(s))
     }
 
-    // .. by motion in any. Coefficients are asked for first, so that where there are any no block is read.
+    // .. in two without tables. Here and below coefficients are asked for first, so that where there are any
+    // no block is read.
+    #[tactic(auto, unfolding(motion::specs::Motion::inter_strength))]
+    fn by_two_lists(self, limit: u8, g: &Grids<'_>, s: usize) -> u8
+        requires within { GridsReach (grids_of g.now) self.blocks.place.w self.blocks.place.x self.blocks.place.y }
+        requires second { 0 < length g.now.list1.references.now }
+        requires no_tables { (length g.now.list0.pictures.now ≡ 0) × (length g.now.list1.pictures.now ≡ 0) }
+        requires segment { s < 4 }
+        ensures { result ≡ moving_by limit (grids_of g.now) self.blocks.place.w self.t self.blocks.place.x self.blocks.place.y (self.k + s) }
+    {
+        if self.is_coded(g.nnz, s) {
+            return 2;
+        }
+        bs_inter(
+            limit,
+            false,
+            g.stored_block(self.p(s)),
+            g.stored_block(self.q(s)),
+        )
+    }
+
+    // .. in two with tables. Kept: (4) the three apart: of a closure that reads a block they would state when
+    // it may be called and what it answers.
+    #[tactic(auto, unfolding(motion::specs::Motion::inter_strength))]
+    fn by_two_tables(self, limit: u8, g: &Grids<'_>, s: usize) -> u8
+        requires within { GridsReach (grids_of g.now) self.blocks.place.w self.blocks.place.x self.blocks.place.y }
+        requires second { 0 < length g.now.list1.references.now }
+        requires tables { (0 < length g.now.list0.pictures.now) × (0 < length g.now.list1.pictures.now) }
+        requires segment { s < 4 }
+        ensures { result ≡ moving_by limit (grids_of g.now) self.blocks.place.w self.t self.blocks.place.x self.blocks.place.y (self.k + s) }
+    {
+        if self.is_coded(g.nnz, s) {
+            return 2;
+        }
+        bs_inter(
+            limit,
+            false,
+            g.named_block(self.p(s)),
+            g.named_block(self.q(s)),
+        )
+    }
+
+    // .. in any.
     #[tactic(auto, unfolding(motion::specs::Motion::inter_strength))]
     fn by_motion(self, limit: u8, g: &Grids<'_>, s: usize) -> u8
         requires within { GridsReach (grids_of g.now) self.blocks.place.w self.blocks.place.x self.blocks.place.y }
@@ -154,17 +204,25 @@ pub fn fill_four<F: Fn(usize) -> u8>(strengths: &mut [u8], to: usize, value: F)
     }
 }
 
-// By motion, in one list where that serves: the loop is then small enough for the compiler to write it out
-// four times.
+// By motion: which lists, tables and 8x8 transforms there are is asked once for the four. Strengths of two
+// lists take less than where each block asks.
 pub fn four_by_motion(limit: u8, edge: MbEdge, g: &Grids<'_>, strengths: &mut [u8], to: usize)
     requires within { GridsReach (grids_of g.now) edge.blocks.place.w edge.blocks.place.x edge.blocks.place.y }
     requires room { to + 4 ≤ length strengths.old }
     ensures { strengths.new ≡ filled 4 to (λ s. moving_by limit (grids_of g.now) edge.blocks.place.w edge.t edge.blocks.place.x edge.blocks.place.y (edge.k + s)) strengths.old }
 {
-    if g.list1.references.is_empty() & g.list0.pictures.is_empty() {
+    let two_lists = !g.list1.references.is_empty();
+    let table0 = !g.list0.pictures.is_empty();
+    let table1 = !g.list1.pictures.is_empty();
+    let eights = edge.has_eights();
+    if !two_lists & !table0 {
         fill_four(strengths, to, |s: usize| {
             edge.by_one_list(limit, g.nnz, &g.list0, s)
         });
+    } else if two_lists & !table0 & !table1 & !eights {
+        fill_four(strengths, to, |s: usize| edge.by_two_lists(limit, g, s));
+    } else if two_lists & table0 & table1 & !eights {
+        fill_four(strengths, to, |s: usize| edge.by_two_tables(limit, g, s));
     } else {
         fill_four(strengths, to, |s: usize| edge.by_motion(limit, g, s));
     }

@@ -17,7 +17,7 @@ pub struct Mode {
 
 impl Mode {
     // The mode of a field, or else of a frame.
-    pub fn of(field: bool) -> Mode
+    pub fn for_field(field: bool) -> Mode
         ensures { result ≡ mode_of field }
     {
         if field {

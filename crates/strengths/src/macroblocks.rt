@@ -38,8 +38,9 @@ fn untrue_known(known: Known, blocks: Blocks, g: &Grids<'_>) -> bool
     if !known.asks_motion() {
         return known.is_untrue(first, false, false);
     }
-    let same = own_same(g, blocks);
-    let counted = some_own(blocks, &|i: usize| 0 < g.nnz[i]);
+    let own = blocks.own();
+    let same = own_same(g, own);
+    let counted = some_own(own, &|i: usize| 0 < g.nnz[i]);
     known.is_untrue(first, same, counted)
 }
 
@@ -53,7 +54,7 @@ fn kind_found(known: Known, blocks: Blocks, g: &Grids<'_>) -> MbKind
 {
     let first = g.inter[blocks.origin()] == 1;
     if first & !known.says_any() {
-        return MbKind::of_flags(true, false, own_alike(g, blocks));
+        return MbKind::of_flags(true, false, own_alike(g, blocks.own()));
     }
     known.kind(first)
 }
@@ -91,7 +92,7 @@ pub fn derive_at(source: &Source<'_>, x: usize, y: usize, known: Known, strength
     let t = Transforms::at(source.t8s, place);
     derive(
         kind,
-        Mode::of(source.field),
+        Mode::for_field(source.field),
         t,
         blocks,
         &source.grids,

@@ -1,13 +1,12 @@
 // A quick test of a macroblock's own blocks: it compares stored numbers and asks no table what a reference
 // names. Where it passes the blocks have one motion. Kept: (4) that a list holds the blocks (`HoldsOrEmpty`)
-// is a fact of list and place, by one name.
+// is a fact of list and places, by one name.
 ghost use Rattle.std.specs.Prelude.{◌≡◌, ◌&&◌, ◌+◌, ◌*◌, ◌<◌, ◌≤◌, length};
 ghost use Rattle.laws.specs.Equal.{eq_z};
 ghost use Rattle.motion.specs.Inner.{stored_of, HoldsOrEmpty};
-ghost use Rattle.strengths.specs.Blocks.{origin, own_block};
 ghost use Rattle.strengths.specs.Inner.{one_stored};
 
-use crate::blocks::Blocks;
+use crate::blocks::Square;
 use crate::walks::some_own;
 use motion::grids::{Grids, ReferenceList};
 
@@ -30,24 +29,24 @@ fn has_vector(list: &ReferenceList<'_>, i: usize, x: i16, y: i16) -> bool
 
 // One list holds the same of all 16 blocks. An empty one does. References and vectors, two arrays, are walked
 // apart.
-fn list_alike(list: &ReferenceList<'_>, blocks: Blocks) -> bool
-    requires { HoldsOrEmpty list.now (own_block blocks.place.w blocks.place.x blocks.place.y 3 3 + 1) }
-    ensures { result ≡ one_stored list.now.references.now list.now.vectors.now blocks.place.w blocks.place.x blocks.place.y }
+fn list_alike(list: &ReferenceList<'_>, square: Square) -> bool
+    requires { HoldsOrEmpty list.now (square.at + 3 * square.stride + 4) }
+    ensures { result ≡ one_stored list.now.references.now list.now.vectors.now square.at square.stride }
 {
     if list.references.is_empty() {
         return true;
     }
-    let first = list.stored(blocks.origin());
-    let references = some_own(blocks, &|i: usize| !has_reference(list, i, first.reference));
-    let vectors = some_own(blocks, &|i: usize| !has_vector(list, i, first.x, first.y));
+    let first = list.stored(square.at);
+    let references = some_own(square, &|i: usize| !has_reference(list, i, first.reference));
+    let vectors = some_own(square, &|i: usize| !has_vector(list, i, first.x, first.y));
     !(references | vectors)
 }
 
 // Both lists do.
-pub fn own_alike(g: &Grids<'_>, blocks: Blocks) -> bool
-    requires list0 { HoldsOrEmpty g.now.list0 (own_block blocks.place.w blocks.place.x blocks.place.y 3 3 + 1) }
-    requires list1 { HoldsOrEmpty g.now.list1 (own_block blocks.place.w blocks.place.x blocks.place.y 3 3 + 1) }
-    ensures { result ≡ (one_stored g.now.list0.references.now g.now.list0.vectors.now blocks.place.w blocks.place.x blocks.place.y && one_stored g.now.list1.references.now g.now.list1.vectors.now blocks.place.w blocks.place.x blocks.place.y) }
+pub fn own_alike(g: &Grids<'_>, square: Square) -> bool
+    requires list0 { HoldsOrEmpty g.now.list0 (square.at + 3 * square.stride + 4) }
+    requires list1 { HoldsOrEmpty g.now.list1 (square.at + 3 * square.stride + 4) }
+    ensures { result ≡ (one_stored g.now.list0.references.now g.now.list0.vectors.now square.at square.stride && one_stored g.now.list1.references.now g.now.list1.vectors.now square.at square.stride) }
 {
-    list_alike(&g.list0, blocks) & list_alike(&g.list1, blocks)
+    list_alike(&g.list0, square) & list_alike(&g.list1, square)
 }

@@ -13,7 +13,7 @@ use Rattle.laws.proofs.Grid.{index-lt, row_fits}
 use Rattle.laws.proofs.Refusal.{passes}
 use Rattle.sizes.specs.Sizes.{outside_of}
 use Rattle.sizes.specs.declared.Part.{Part}
-use Rattle.slices.specs.Slicing.{bad_number_count, bad_slice_offset}
+use Rattle.slices.specs.Slicing.{bad_number_count}
 use Rattle.pictures.specs.Checks.{Lent, picture_checks, grid_checks}
 use Rattle.pictures.specs.Inner.{GridsHold}
 use Rattle.pictures.proofs.Fitting.{Fitting, fitting, grids-hold}
@@ -86,12 +86,12 @@ module _ (part : Part) (d : Lent) (ly lu lv : ℕ) where
       grids = grid_checks (d.size.w * d.size.h) (length d.strengths) (length d.qps) (length d.t8s) (other || not (eqb lm (d.size.w * d.size.h))) six
 
   -- .. and the grids up to it
-  pub grouped-grids : (lm : ℕ) (r : At) → refusal (picture_checks part d.size (outside_of d.size r.0 r.1) ly lu lv) ≡ 0
-      → refusal (grid_checks (d.size.w * d.size.h) (length d.strengths) (length d.qps) (length d.t8s) (bad_number_count d.slicing (d.size.w * d.size.h) || not (eqb lm (d.size.w * d.size.h))) (bad_slice_offset d.slicing)) ≡ 0
+  pub grouped-grids : (lm : ℕ) (r : At) (six : Bool) → refusal (picture_checks part d.size (outside_of d.size r.0 r.1) ly lu lv) ≡ 0
+      → refusal (grid_checks (d.size.w * d.size.h) (length d.strengths) (length d.qps) (length d.t8s) (bad_number_count d.slicing (d.size.w * d.size.h) || not (eqb lm (d.size.w * d.size.h))) six) ≡ 0
       → (m : ℕ) → m ≤ d.size.w * d.size.h → GridsHold m d
-  grouped-grids lm r z e m h =
+  grouped-grids lm r six z e m h =
       let four = or-false _ _ (passes 4 grids tt e) in
-      grids-hold part d ly lu lv m (grouped-visit-fits lm r (bad_number_count d.slicing (d.size.w * d.size.h)) (bad_slice_offset d.slicing) z e).fit (or-false (bad_number_count d.slicing (d.size.w * d.size.h)) _ four.1).0 h
+      grids-hold part d ly lu lv m (grouped-visit-fits lm r (bad_number_count d.slicing (d.size.w * d.size.h)) six z e).fit (or-false (bad_number_count d.slicing (d.size.w * d.size.h)) _ four.1).0 h
     where
       grids : List (ℕ × Bool)
-      grids = grid_checks (d.size.w * d.size.h) (length d.strengths) (length d.qps) (length d.t8s) (bad_number_count d.slicing (d.size.w * d.size.h) || not (eqb lm (d.size.w * d.size.h))) (bad_slice_offset d.slicing)
+      grids = grid_checks (d.size.w * d.size.h) (length d.strengths) (length d.qps) (length d.t8s) (bad_number_count d.slicing (d.size.w * d.size.h) || not (eqb lm (d.size.w * d.size.h))) six

@@ -11,8 +11,8 @@ ghost use Rattle.sizes.specs.Inner.{InPicture};
 ghost use Rattle.slices.specs.Inner.{NumbersHold};
 ghost use Rattle.slices.specs.LentSlicing.{slicing_of};
 ghost use Rattle.slices.specs.Slicing.{some_bad_number};
-ghost use Rattle.visits.specs.Checks.{bad_marks, bad_around, early_in};
-ghost use Rattle.visits.specs.Inner.{visit_entry_checks};
+ghost use Rattle.visits.specs.Checks.{bad_marks, bad_around};
+ghost use Rattle.visits.specs.Inner.{visit_entry_checks, early_by};
 
 use edges::Planes;
 use pictures::Lent;
@@ -21,7 +21,7 @@ use refusals::Refusal;
 use sizes::Picture;
 use sizes::entries::{bad_before, bad_near, over_near};
 use sizes::places::Place;
-use slices::Slicing;
+use slices::{Slicing, Survey};
 
 // Check 7, of the marks.
 #[tactic(auto, unfolding(crate::specs::Checks::bad_marks))]
@@ -63,26 +63,33 @@ fn bad_numbers(slicing: &Slicing<'_>, place: Place) -> bool
     }
 }
 
-// Checks 7 to 9, 20 and 21.
-fn check_visit_entries(place: Place, lent: &Lent<'_>, marks: &[u8]) -> Result<(), Refusal>
+// Checks 7 to 9, 20 and 21, of which the last is told.
+#[inline(always)]
+fn check_visit_entries(
+    place: Place,
+    lent: &Lent<'_>,
+    marks: &[u8],
+    bad_mode: bool,
+) -> Result<(), Refusal>
     requires place { InPicture place.w place.x place.y (length marks.now) × InPicture place.w place.x place.y 36864 }
     requires grids { GridsHold (place.y * place.w + place.x + 1) (given_wide place.w lent.now) }
-    ensures { number_of result ≡ refusal (visit_entry_checks (given_wide place.w lent.now) marks.now (place.x, place.y)) }
+    ensures { number_of result ≡ refusal (visit_entry_checks bad_mode (given_wide place.w lent.now) marks.now (place.x, place.y)) }
 {
-    let i = place.index();
+    let i = place.address();
     let grids = &lent.grids;
     let bad = BadEntries {
         flag: any_bad_flag(grids.t8s, i, i + 1) | bad_marks(marks, place),
         qp: bad_qps(grids.qps, place),
         strength: any_bad_strength(grids.strengths, i, i + 1),
         number: bad_numbers(&lent.slicing, place),
-        mode: lent.slicing.has_bad_mode(),
+        mode: bad_mode,
     };
     bad.check()
 }
 
-// All of them. Kept: (1) x and y for a place: places outside the picture are refused with 2, and a `Place`
-// there would have a width of its own beside the picture's.
+// All of them; of the slices it is told what they come to. Kept: (1) x and y for a place: places outside the
+// picture are refused with 2, and a `Place` there would have a width of its own beside the picture's.
+#[inline(always)]
 pub fn check_early(
     picture: Picture,
     x: usize,
@@ -90,12 +97,13 @@ pub fn check_early(
     planes: &Planes<'_>,
     lent: &Lent<'_>,
     marks: &[u8],
+    survey: Survey,
 ) -> Result<(), Refusal>
-    ensures { number_of result ≡ early_in picture.part (given picture.size lent.now) (samples planes.now, marks.now) (x, y) }
+    ensures { number_of result ≡ early_by survey picture.part (given picture.size lent.now) (samples planes.now, marks.now) (x, y) }
 {
     let size = picture.size;
     check_picture(picture, (size.w <= x) | (size.h <= y), planes)?;
     let n = size.count();
-    lent.check_grids(n, marks.len() != n)?;
-    check_visit_entries(Place { w: size.w, x, y }, lent, marks)
+    lent.check_grids(n, marks.len() != n, survey.bad_offset)?;
+    check_visit_entries(Place { w: size.w, x, y }, lent, marks, survey.bad_mode)
 }

@@ -4,4 +4,5 @@
 
 pub mod checks;
 pub mod readiness;
+pub mod surveyed;
 pub mod visits;

@@ -26,7 +26,7 @@ pub fn check_ready(marks: &[u8], place: Place) -> Result<(), Refusal>
     requires { InPicture place.w place.x place.y (length marks.now) }
     ensures { number_of result ≡ cond (marked place.w marks.now place.x place.y) 13 (cond (waiting place.w marks.now place.x place.y) 14 0) }
 {
-    if marks[place.index()] == 1 {
+    if marks[place.address()] == 1 {
         return Err(Refusal::Visited);
     }
     if waits(marks, place) {

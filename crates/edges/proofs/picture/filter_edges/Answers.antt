@@ -39,4 +39,4 @@ returns-clause-is c =
     let d = a.grids.now in
     let mine = after-rest d.strengths.now (32 * (a.place.y * a.place.w + a.place.x)) in
     planned (held_as a.place.w (entries d.strengths.now) d.qps.now d.t8s.now a.settings.offsets a.settings.on) (layout_of a.part) a.place.x a.place.y a.planes.now.luma.now a.planes.now.u.now a.planes.now.v.now _
-    (c.plan_at-plan.ensures (entries d.strengths.now)) (rw (c.index.ensures, mine) at c.luma_plane.ensures) (rw (c.index.ensures, mine) at c.chroma_planes.ensures.u_after) (rw (c.index.ensures, mine) at c.chroma_planes.ensures.v_after)
+    (c.plan_at-plan.ensures (entries d.strengths.now)) (rw (c.address.ensures, mine) at c.luma_plane.ensures) (rw (c.address.ensures, mine) at c.chroma_planes.ensures.u_after) (rw (c.address.ensures, mine) at c.chroma_planes.ensures.v_after)

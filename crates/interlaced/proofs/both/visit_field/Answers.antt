@@ -4,7 +4,7 @@ use Rattle.interlaced.proofs.Calls.{top-visited, bottom-visited}
 use Rattle.interlaced.proofs.both.visit_field.Goals as goal
 
 pub returns-then-top-clause-outcome : goal.returns-then-top-clause-outcome
-returns-then-top-clause-outcome c = top-visited _ _ _ _ _ _ (search rules) c.visit.ensures.outcome
+returns-then-top-clause-outcome c = top-visited _ _ _ _ _ _ (search rules) c.visit_surveyed.ensures.outcome
 
 pub returns-clause-outcome : goal.returns-clause-outcome
-returns-clause-outcome c = bottom-visited _ _ _ _ _ _ (search rules) c.visit-2.ensures.outcome
+returns-clause-outcome c = bottom-visited _ _ _ _ _ _ (search rules) c.visit_surveyed-2.ensures.outcome

@@ -1,5 +1,5 @@
 -- `check_rows`: the checks in their groups, each made where none of those before it applies. Assumes nothing.
-use Rattle.std.proofs.Common.{◌≡◌, ◌≢◌, ◌*◌, ℕ, Bool, false, List, ◌++◌, ◌||◌, length, rules, sym, ap, ◌∙◌, arith}
+use Rattle.std.proofs.Common.{◌≡◌, ◌≢◌, ◌*◌, ℕ, Bool, false, List, ◌++◌, ◌||◌, length, rules, sym, ◌∙◌, arith}
 use Rattle.laws.specs.Refusal.{refusal}
 use Rattle.laws.proofs.Bools.{or-false}
 use Rattle.laws.proofs.Refusal.{first-applies, first-passed, passes}
@@ -22,18 +22,18 @@ module _ (part : Part) (d : Lent) (a b : ℕ) (p : Planes) where
   abbrev picture : List (ℕ × Bool)
   picture = picture_checks part d.size (bad_range d.size a b) (length p.luma) (length p.u) (length p.v)
 
-  abbrev grids-of : ℕ → List (ℕ × Bool)
-  grids-of n = grid_checks n (length d.strengths) (length d.qps) (length d.t8s) (bad_number_count d.slicing n || false) (bad_slice_offset d.slicing)
+  abbrev grids-of : ℕ → Bool → List (ℕ × Bool)
+  grids-of n six = grid_checks n (length d.strengths) (length d.qps) (length d.t8s) (bad_number_count d.slicing n || false) six
 
   abbrev grids : List (ℕ × Bool)
-  grids = grids-of (d.size.w * d.size.h)
+  grids = grids-of (d.size.w * d.size.h) (bad_slice_offset d.slicing)
 
   abbrev entries : List (ℕ × Bool)
   entries = row_entry_checks d a b
 
-  -- the number of macroblocks is the product of the sides
-  by-count : {k n : ℕ} → n ≡ d.size.w * d.size.h → k ≡ refusal (grids-of n) → k ≡ refusal grids
-  by-count e h = h ∙ ap (λ m. refusal (grids-of m)) e
+  -- the number of macroblocks is the product of the sides, and check 6 is what the slicing answers of it
+  by-count : {k n : ℕ} {six : Bool} → n ≡ d.size.w * d.size.h → six ≡ bad_slice_offset d.slicing → k ≡ refusal (grids-of n six) → k ≡ refusal grids
+  by-count e f h = h ∙ (λ i. refusal (grids-of (e i) (f i)))
 
   by-picture : {n : ℕ} → n ≡ refusal picture → n ≢ 0 → n ≡ row_answer part d a b p
   unfolding row_answer
@@ -70,7 +70,7 @@ returns-in_err-check_grids c =
     let a = c.args in
     let same : number_of c.from_residual-in_err-check_grids.result ≡ code_of c.in_err-check_grids.field-0.0 = search rules in
     same
-    ∙ by-grids a.picture.part (given a.picture.size a.lent.now) a.a a.b (samples a.planes.now) (sym c.in_ok-check_picture.ensures) (by-count a.picture.part (given a.picture.size a.lent.now) a.a a.b (samples a.planes.now) c.count.ensures c.in_err-check_grids.ensures)
+    ∙ by-grids a.picture.part (given a.picture.size a.lent.now) a.a a.b (samples a.planes.now) (sym c.in_ok-check_picture.ensures) (by-count a.picture.part (given a.picture.size a.lent.now) a.a a.b (samples a.planes.now) c.count.ensures c.has_bad_offset.ensures c.in_err-check_grids.ensures)
     (code-positive c.in_err-check_grids.field-0.0)
 
 pub check_row_entries-requires-clause-rows : goal.check_row_entries-requires-clause-rows
@@ -78,15 +78,15 @@ check_row_entries-requires-clause-rows c =
     let a = c.args in
     let p = samples a.planes.now in
     let d = given a.picture.size a.lent.now in
-    let f = fits a.picture.part d a.a a.b p (sym c.in_ok-check_picture.ensures) (sym (by-count a.picture.part (given a.picture.size a.lent.now) a.a a.b (samples a.planes.now) c.count.ensures c.in_ok-check_grids.ensures)) in
+    let f = fits a.picture.part d a.a a.b p (sym c.in_ok-check_picture.ensures) (sym (by-count a.picture.part (given a.picture.size a.lent.now) a.a a.b (samples a.planes.now) c.count.ensures c.has_bad_offset.ensures c.in_ok-check_grids.ensures)) in
     (f.order, omega (arith, f.fit.sides.most, ends a.picture.part d a.a a.b (length p.luma) (length p.u) (length p.v) f))
 
 pub check_row_entries-requires-clause-grids : goal.check_row_entries-requires-clause-grids
 check_row_entries-requires-clause-grids c =
     let a = c.args in
-    hold a.picture.part (given a.picture.size a.lent.now) a.a a.b (samples a.planes.now) (sym c.in_ok-check_picture.ensures) (sym (by-count a.picture.part (given a.picture.size a.lent.now) a.a a.b (samples a.planes.now) c.count.ensures c.in_ok-check_grids.ensures))
+    hold a.picture.part (given a.picture.size a.lent.now) a.a a.b (samples a.planes.now) (sym c.in_ok-check_picture.ensures) (sym (by-count a.picture.part (given a.picture.size a.lent.now) a.a a.b (samples a.planes.now) c.count.ensures c.has_bad_offset.ensures c.in_ok-check_grids.ensures))
 
 pub returns : goal.returns
 returns c =
     let a = c.args in
-    by-entries a.picture.part (given a.picture.size a.lent.now) a.a a.b (samples a.planes.now) (sym c.in_ok-check_picture.ensures) (sym (by-count a.picture.part (given a.picture.size a.lent.now) a.a a.b (samples a.planes.now) c.count.ensures c.in_ok-check_grids.ensures)) c.check_row_entries.ensures
+    by-entries a.picture.part (given a.picture.size a.lent.now) a.a a.b (samples a.planes.now) (sym c.in_ok-check_picture.ensures) (sym (by-count a.picture.part (given a.picture.size a.lent.now) a.a a.b (samples a.planes.now) c.count.ensures c.has_bad_offset.ensures c.in_ok-check_grids.ensures)) c.check_row_entries.ensures

@@ -9,7 +9,7 @@ use Rattle.strengths.proofs.checks.disagreeing.Goals as goal
 pub some_beside-above-requires-clause-asked : goal.some_beside-above-requires-clause-asked
 some_beside-above-requires-clause-asked c =
     let a = c.args.blocks.place in
-    rw c.above.ensures (if-there _ (ltb 0 a.y) (origin a.w a.x a.y) (4 * a.w) (λ e k h. search rules))
+    rw c.above_block.ensures (if-there _ (ltb 0 a.y) (origin a.w a.x a.y) (4 * a.w) (λ e k h. search rules))
 
 pub returns : goal.returns
 unfolding disagree
@@ -22,17 +22,17 @@ returns c =
     let own = c.some_own-own.ensures (λ j. differs f j c.origin-at.result) (λ r k b h l q. search rules) in
     let left =
     c.some_beside-left.ensures (λ j. differs f j (c.origin-at.result - 1))
-    (rw c.left.ensures (if-there _ (ltb 0 a.x) o 1 (λ e k b h q. search rules)))
+    (rw c.left_block.ensures (if-there _ (ltb 0 a.x) o 1 (λ e k b h q. search rules)))
     in
     let above =
     c.some_beside-above.ensures (λ j. differs f j (c.origin-at.result - c.stride-stride.result))
-    (rw c.above.ensures (if-there _ (ltb 0 a.y) o (4 * a.w) (λ e k b h q. search rules)))
+    (rw c.above_block.ensures (if-there _ (ltb 0 a.y) o (4 * a.w) (λ e k b h q. search rules)))
     in
     (λ i. own i || left i || above i)
     ∙ (λ i.
-    some 4 (λ r. some 4 (λ k. differs f (own_block a.w a.x a.y r k) (at i)))
-    || beside (c.left.ensures i) (λ j. some 4 (λ k. differs f (j + k * stride i) (at i - 1)))
-    || beside (c.above.ensures i) (λ j. some 4 (λ k. differs f (j + k * 1) (at i - stride i))))
+    some 4 (λ r. some 4 (λ k. differs f ((c.own.ensures i).at + r * (c.own.ensures i).stride + k) (at i)))
+    || beside (c.left_block.ensures i) (λ j. some 4 (λ k. differs f (j + k * stride i) (at i - 1)))
+    || beside (c.above_block.ensures i) (λ j. some 4 (λ k. differs f (j + k * 1) (at i - stride i))))
     ∙ (λ i.
     some 4 (λ r. some 4 (λ k. differs f (own_block a.w a.x a.y r k) o))
     || beside-there (λ j. some 4 (λ k. differs f (j + k * (4 * a.w)) (o - 1))) (ltb 0 a.x) o 1 i

@@ -12,6 +12,6 @@ returns-then-is_intra c =
     let p = a.blocks.place in
     let r = c.requires in
     let i = sym c.is_intra.ensures ∙ c.if-is_intra.true in
-    (rw c.index-to.ensures at c.derive_intra.ensures)
+    (rw c.address-to.ensures at c.derive_intra.ensures)
     ∙ up_to-same 32 _ _ a.strengths.now
     (λ k u h. ap (λ (n : ℕ). set u (32 * (p.y * p.w + p.x) + k) n) (intra-edge (grids_of a.g.now) p.w p.x p.y r.agree a.kind i r.kind_value a.mode a.t k))

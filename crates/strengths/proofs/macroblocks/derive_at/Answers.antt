@@ -36,5 +36,5 @@ returns c =
     let s = a.source.now in
     let g = grids_of s.grids in
     let n = length a.strengths.now in
-    (rw (c.of.ensures, c.at-t.ensures) at c.derive.ensures)
+    (rw (c.for_field.ensures, c.at-t.ensures) at c.derive.ensures)
     ∙ by-true-kind s.size s.field a.x a.y s.t8s.now g a.strengths.now c.kind_found-kind.result n (passed s.size a.x a.y s.t8s.now g n _ c.requires).zero c.kind_found-kind.ensures

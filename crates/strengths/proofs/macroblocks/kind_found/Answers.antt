@@ -1,6 +1,7 @@
-use Rattle.std.proofs.Common.{◌≡◌, true, ◌==◌, slice_index, sym, ap, ◌∙◌}
+use Rattle.std.proofs.Common.{◌≡◌, ◌*◌, true, ◌==◌, slice_index, sym, ap, ◌∙◌}
 use Rattle.laws.proofs.Bools.{and-true}
 use Rattle.motion.specs.Lent.{grids_of}
+use Rattle.strengths.specs.Blocks.{origin}
 use Rattle.strengths.specs.Kinds.{is_kind}
 use Rattle.strengths.proofs.InterAgrees.{known-kind, found-kind}
 use Rattle.strengths.proofs.OwnAlike.{one-motion}
@@ -14,7 +15,7 @@ returns-then-first-says_any c =
     ap (is_kind g a.w a.x a.y) c.of_flags.ensures
     ∙ found-kind g a.w a.x a.y c.requires.agree c.own_alike.result
     (rw c.origin.ensures at first)
-    (λ e. one-motion g a.w a.x a.y (sym c.own_alike.ensures ∙ e))
+    (λ e. one-motion g (origin a.w a.x a.y) (4 * a.w) (sym (rw c.own.ensures at c.own_alike.ensures) ∙ e))
 
 pub returns : goal.returns
 returns c =

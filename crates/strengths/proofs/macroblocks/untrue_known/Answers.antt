@@ -1,4 +1,4 @@
-use Rattle.std.proofs.Common.{ltb, get_or, sym, ◌∙◌, rules}
+use Rattle.std.proofs.Common.{◌≡◌, ltb, get_or, sym, ◌∙◌, rules}
 use Rattle.motion.specs.Lent.{grids_of}
 use Rattle.strengths.specs.ByKind.{first_inter, untrue_by}
 use Rattle.strengths.proofs.InterAgrees.{one_motion, some_counted, known_by, unasked}
@@ -17,7 +17,9 @@ pub returns : goal.returns
 returns c =
     let a = c.args.blocks.place in
     let g = grids_of c.args.g.now in
-    let counted = c.some_own-counted.ensures (λ i. ltb 0 (get_or g.nnz i 0)) (λ r k b h l q. search rules) in
+    let same : c.own_same-same.result ≡ one_motion g a.w a.x a.y = rw c.own-own.ensures at c.own_same-same.ensures in
+    let found = c.some_own-counted.ensures (λ i. ltb 0 (get_or g.nnz i 0)) (λ r k b h l q. search rules) in
+    let counted : c.some_own-counted.result ≡ some_counted g a.w a.x a.y = rw c.own-own.ensures at found in
     rw c.origin.ensures at c.is_untrue-2.ensures
-    ∙ (λ i. untrue_by c.args.known (first_inter g.inter a.w a.x a.y) (c.own_same-same.ensures i) (counted i))
+    ∙ (λ i. untrue_by c.args.known (first_inter g.inter a.w a.x a.y) (same i) (counted i))
     ∙ known_by g a.w a.x a.y c.requires.agree c.args.known

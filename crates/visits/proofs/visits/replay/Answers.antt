@@ -13,10 +13,10 @@ loop-k-preserved c =
     let even = or-false _ _ c.if-ys-xs.false in
     let turn =
     served-turn a.xs.now a.ys.now c.loop-k-test.true (sym (equal _ _ even.0)) (length-map c.loop-k.answers number_of ∙ c.loop-k.invariant.1) c.loop-k.invariant.2
-    c.visit.ensures.outcome in (
+    c.visit_surveyed.ensures.outcome in (
       search rules,
-      length-set c.loop-k.answers c.loop-k.k c.visit.result ∙ c.loop-k.invariant.1,
-      rw (map-set number_of c.loop-k.answers c.loop-k.k c.visit.result) turn,
+      length-set c.loop-k.answers c.loop-k.k c.visit_surveyed.result ∙ c.loop-k.invariant.1,
+      rw (map-set number_of c.loop-k.answers c.loop-k.k c.visit_surveyed.result) turn,
     )
 
 pub returns-clause-outcome : goal.returns-clause-outcome

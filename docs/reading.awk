@@ -1,6 +1,7 @@
 # For docs/reading: finds the definitions in reach of the roots. A definition begins on a line with `abbrev`,
 # `unfoldable` or `pub`, and goes on to the next; its references are the words in it that the file defines or
-# takes from another by `use`.
+# takes from another by `use`. A struct or an enum of the code that these speak of, or that a public call is
+# lent or answers, is listed with those that its members are.
 
 function fail(what) { print what >"/dev/stderr"; bad = 1 }
 
@@ -17,11 +18,14 @@ function module(path,    crate) {
     return "crates/" crate "/specs/" path ".antt"
 }
 
-# use PATH.{a, b as c}
+# use PATH.{a, b as c}; names of a module that is taken whole, with `as` or without, are not followed
 function take(line,    path, names, n, i, name, both) {
     path = line
     sub(/^(ghost )?use /, "", path)
-    if (path !~ /^Rattle\..*\.\{/) return
+    if (path !~ /^Rattle\..*\.\{/) {
+        if (path ~ (kind == "spec" ? "^Rattle\\." : "^Rattle\\..*\\.specs\\.")) whole[FILENAME] = 1
+        return
+    }
     names = path
     sub(/\.\{.*/, "", path)
     sub(/.*\.\{/, "", names)
@@ -35,6 +39,10 @@ function take(line,    path, names, n, i, name, both) {
         from[FILENAME, name[i]] = module(path)
         uses[FILENAME, module(path)] = 1
     }
+}
+
+function refuse_whole(path) {
+    if (whole[path]) fail(path ": names of a module that is taken whole are not followed")
 }
 
 # the words of a line but for projections, r.x
@@ -71,20 +79,29 @@ function begin(line,    name) {
 
 FNR == 1 {
     kind = FILENAME ~ /\.rt$/ ? "code" : FILENAME ~ /\/proofs\// ? "proof" : "spec"
+    if (declarations) kind = "declared"
     now = heldText = ""
-    held = public = stating = 0
+    held = public = stating = signature = 0
     heading = kind == "spec"
     if (heading) order[++count] = FILENAME
 }
 heading && !/^-- / { heading = 0 }
 heading { head[FILENAME] = head[FILENAME] substr($0, 3) }
 
+# ---- what the structs and enums of the code are made of: the words of their bodies but for variants' names
+kind == "declared" && /^pub (struct|enum) .*\{$/ { type = $3; sub(/<.*/, "", type); members[type] = ""; next }
+kind == "declared" && /^}/ { type = "" }
+kind == "declared" { sub(/\/\/.*/, ""); sub(/^ *[A-Z][A-Za-z0-9]*/, "") }
+kind == "declared" && type != "" { members[type] = members[type] " " $0 }
+kind == "declared" { next }
+
 /^(ghost )?use / { take($0); next }
 
 # ---- roots: what public functions ensure, and what the named theorems state
-kind == "code" && /^(pub )?(extern "C" )?fn / { public = /^pub / }
-kind == "code" && /^ *(requires|ensures) / { ensures = /^ *ensures / }
-kind == "code" && /^\{/ { ensures = 0 }
+kind == "code" && /^(pub )?(extern "C" )?fn / { public = signature = /^pub / }
+kind == "code" && /^ *(requires|ensures) / { ensures = /^ *ensures /; signature = 0 }
+kind == "code" && /^\{/ { ensures = signature = 0 }
+kind == "code" && signature { signatures = signatures " " $0 }
 kind == "code" { if (public && ensures) refer(FILENAME SUBSEP "", $0); next }
 kind == "proof" { match($0, /^ */); depth = RLENGTH }
 kind == "proof" && /^ *pub / { stating = index(" " theorems " ", " " $2 " ") > 0; found[$2] = 1; stated = depth }
@@ -104,11 +121,26 @@ function reach(source, name,    target) {
     if (target == "" || target SUBSEP name in reached) return
     reached[target SUBSEP name] = 1
     if (target ~ /^src /) {
-        structs = structs (structs == "" ? "" : ", ") "`" name "`"
+        if (!(name in members)) fail(source ": no library crate declares " name)
+        speak(name)
         return
     }
     todo[++last] = target SUBSEP name
     wanted[target] = 1
+}
+
+# a struct or an enum of the code, and those that it is made of
+function speak(name) {
+    if (name in spoken) return
+    spoken[name] = 1
+    structs = structs (structs == "" ? "" : ", ") "`" name "`"
+    types(members[name])
+}
+
+function types(text,    n, i, name) {
+    gsub(/[^A-Za-z0-9_]+/, " ", text)
+    n = split(text, name, " ")
+    for (i = 1; i <= n; i++) if (name[i] in members) speak(name[i])
 }
 
 function follow(at, source,    n, i, name) {
@@ -148,12 +180,14 @@ function ready(path,    i) {
 END {
     n = split(theorems, theorem, " ")
     for (i = 1; i <= n; i++) if (!(theorem[i] in found)) fail("there is no theorem " theorem[i])
-    for (i = 1; i < ARGC; i++) {
+    for (i = 1; i < ARGC && ARGV[i] != "declarations=1"; i++) {
         if (ARGV[i] !~ /^crates/ || ARGV[i] ~ /\/specs\//) continue
         if (said[ARGV[i] SUBSEP ""] == "") fail(ARGV[i] ": no statement to start from")
+        refuse_whole(ARGV[i])
         follow(ARGV[i] SUBSEP "", ARGV[i])
     }
     for (first = 1; first <= last; first++) follow(todo[first], file[todo[first]])
+    types(signatures)
     print "| file | what it says | definitions | lines |"
     print "|---|---|---|---|"
     for (again = 1; again; ) {
@@ -167,9 +201,11 @@ END {
     for (i = 1; i <= count; i++) {
         apart = head[order[i]] ~ /^ Apart: /
         if (!wanted[order[i]] && !apart) fail(order[i] ": its first line does not say that it stands apart")
+        if (wanted[order[i]]) refuse_whole(order[i])
         if (wanted[order[i]] && apart) fail(order[i] ": says that it stands apart, but a promise rests on it")
     }
-    print "| `src/` | the structs and enums of the code that these speak of | " structs " | |"
+    title = "the structs and enums of the code that these and the public calls speak of"
+    print "| `src/` | " title ", with those of their members | " structs " | |"
     printf "| all | %d files | | %d |\n", files, total
     if (total > most) fail(total " lines are more than " most)
     exit bad

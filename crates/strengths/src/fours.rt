@@ -204,8 +204,9 @@ pub fn fill_four<F: Fn(usize) -> u8>(strengths: &mut [u8], to: usize, value: F)
     }
 }
 
-// By motion: which lists, tables and 8x8 transforms there are is asked once for the four. Strengths of two
-// lists take less than where each block asks.
+// By motion. Which lists, tables and 8x8 transforms there are is asked here to choose a way for the four: two
+// lists take less where no block asks. One list with a table, and two beside an 8x8 transform, go by
+// `by_motion`, which asks at each block.
 pub fn four_by_motion(limit: u8, edge: MbEdge, g: &Grids<'_>, strengths: &mut [u8], to: usize)
     requires within { GridsReach (grids_of g.now) edge.blocks.place.w edge.blocks.place.x edge.blocks.place.y }
     requires room { to + 4 ≤ length strengths.old }

@@ -35,6 +35,7 @@ pub mod RoundsRun
 pub mod SliceExamples
 pub mod SliceRefused
 pub mod Smallest
+pub mod Told
 pub mod Unique
 pub mod Unseen
 pub mod Verdict

@@ -7,13 +7,20 @@ use Rattle.sizes.specs.Sizes.{outside_of}
 use Rattle.sizes.specs.declared.Part.{Part}
 use Rattle.slices.specs.Slicing.{bad_number_count, some_bad_number}
 use Rattle.slices.specs.declared.Survey.{Survey}
-use Rattle.pictures.specs.Checks.{Lent, Reads, picture_checks, grid_checks, entry_checks}
+use Rattle.pictures.specs.Checks.{Lent, Reads, picture_checks, grid_checks, entry_checks, slice_checks}
 use Rattle.visits.specs.Checks.{visit_reads}
 use Rattle.visits.specs.Visit.{At, State, run, answers}
 
--- 7, 8, 9, 20 and 21, of which the last is told
-abbrev pub visit_entry_checks : Bool → Lent → List ℕ → At → List (ℕ × Bool)
-visit_entry_checks mode d ms r = entry_checks d.qps reads ++ (20, some_bad_number d.slicing reads.near) ∷ (21, mode) ∷ []
+-- 7, 8, 9, 20 and 21
+abbrev pub visit_entry_checks : Lent → List ℕ → At → List (ℕ × Bool)
+visit_entry_checks d ms r = entry_checks d.qps reads ++ slice_checks d.slicing reads
+  where
+    reads : Reads
+    reads = visit_reads d.size.w d.strengths d.t8s ms r
+
+-- .. where 21 is told; told what the slices come to, they are the same (`told-entries` of proofs/Told)
+abbrev pub told_entry_checks : Bool → Lent → List ℕ → At → List (ℕ × Bool)
+told_entry_checks mode d ms r = entry_checks d.qps reads ++ (20, some_bad_number d.slicing reads.near) ∷ (21, mode) ∷ []
   where
     reads : Reads
     reads = visit_reads d.size.w d.strengths d.t8s ms r
@@ -24,7 +31,7 @@ early_by told part d s r =
     refusal
     (picture_checks part d.size (outside_of d.size r.0 r.1) (length s.0.luma) (length s.0.u) (length s.0.v)
     ++ grid_checks n (length d.strengths) (length d.qps) (length d.t8s) (bad_number_count d.slicing n || not (eqb (length s.1) n)) told.bad_offset
-    ++ visit_entry_checks told.bad_mode d s.1 r)
+    ++ told_entry_checks told.bad_mode d s.1 r)
   where
     n : ℕ
     n = d.size.w * d.size.h

@@ -12,7 +12,7 @@ ghost use Rattle.slices.specs.Inner.{NumbersHold};
 ghost use Rattle.slices.specs.LentSlicing.{slicing_of};
 ghost use Rattle.slices.specs.Slicing.{some_bad_number};
 ghost use Rattle.visits.specs.Checks.{bad_marks, bad_around};
-ghost use Rattle.visits.specs.Inner.{visit_entry_checks, early_by};
+ghost use Rattle.visits.specs.Inner.{told_entry_checks, early_by};
 
 use edges::Planes;
 use pictures::Lent;
@@ -73,7 +73,7 @@ fn check_visit_entries(
 ) -> Result<(), Refusal>
     requires place { InPicture place.w place.x place.y (length marks.now) × InPicture place.w place.x place.y 36864 }
     requires grids { GridsHold (place.y * place.w + place.x + 1) (given_wide place.w lent.now) }
-    ensures { number_of result ≡ refusal (visit_entry_checks bad_mode (given_wide place.w lent.now) marks.now (place.x, place.y)) }
+    ensures { number_of result ≡ refusal (told_entry_checks bad_mode (given_wide place.w lent.now) marks.now (place.x, place.y)) }
 {
     let i = place.address();
     let grids = &lent.grids;

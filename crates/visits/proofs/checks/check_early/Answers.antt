@@ -13,7 +13,7 @@ use Rattle.slices.specs.Slicing.{bad_number_count}
 use Rattle.slices.specs.declared.Survey.{Survey}
 use Rattle.pictures.specs.Checks.{Lent, picture_checks, grid_checks}
 use Rattle.pictures.specs.LentData.{given}
-use Rattle.visits.specs.Inner.{visit_entry_checks, early_by}
+use Rattle.visits.specs.Inner.{told_entry_checks, early_by}
 use Rattle.visits.specs.Visit.{At}
 use Rattle.visits.proofs.VisitFits.{grouped-visit-fits, grouped-grids, in-picture, in-largest, index}
 use Rattle.visits.proofs.checks.check_early.Goals as goal
@@ -32,7 +32,7 @@ module _ (told : Survey) (part : Part) (d : Lent) (p : Planes) (ms : List ℕ) (
   lengths = lengths-of (d.size.w * d.size.h)
 
   abbrev entries : List (ℕ × Bool)
-  entries = visit_entry_checks told.bad_mode d ms r
+  entries = told_entry_checks told.bad_mode d ms r
 
   -- the number of macroblocks is the product of the sides
   by-count : {k n : ℕ} → n ≡ d.size.w * d.size.h → k ≡ refusal (lengths-of n) → k ≡ refusal lengths

@@ -19,13 +19,13 @@ use Rattle.visits.specs.Checks.{early_in}
 use Rattle.visits.specs.Inner.{early_by}
 use Rattle.visits.specs.Visit.{At, State}
 use Rattle.visits.proofs.Outcome.{answer-early, answer-late, refused-outcome, done-outcome}
+use Rattle.visits.proofs.Told.{told-early}
 use Rattle.visits.proofs.VisitFits.{VisitFits, checked-visit-fits, checked-grids, index, in-picture, row-inside}
 use Rattle.visits.proofs.surveyed.visit_surveyed.Goals as goal
 
 -- the earlier checks by what the slices come to are those of the rules
 by-told : (told : Survey) (part : Part) (d : Lent) (s : State Planes) (r : At) → told ≡ survey_of_slices d.slicing → {n : ℕ} → n ≡ early_by told part d s r → n ≡ early_in part d s r
-unfolding early_by early_in
-by-told told part d s r e h = h ∙ (λ i. early_by (e i) part d s r)
+by-told told part d s r e h = h ∙ (λ i. early_by (e i) part d s r) ∙ told-early part d s r
 
 -- where the call goes on after the earlier checks
 module _ (part : Part) (d : Lent) (p : Planes) (marks : List ℕ) (r : At) (z : early_in part d (p, marks) r ≡ 0) where

@@ -212,7 +212,7 @@ pub struct Grids {
 }
 
 impl Grids {
-    // Of n macroblocks, as calls are lent them. Kept: (4) beside `Loaded::lent` of recordings, which lends
+    // Of n macroblocks, as calls are lent them. Kept: (4) beside `Held::loaded` of recordings, which lends
     // slices too; what they share is three names.
     pub fn lent(&self, n: usize) -> MbGrids<'_> {
         let n = n.min(MOST_OF_PICTURE);
